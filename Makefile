@@ -1,0 +1,18 @@
+# What people do here. `make test` is the gate; it needs the Rattle kit (`rt`) and nothing else.
+.PHONY: run test answers
+
+# Replays the stored answers of the Rust original against the proved code.
+run:
+	@mkdir -p target
+	@rt check replay >target/run.log 2>&1 || { cat target/run.log; exit 1; }
+	@cd crates/replay/data && ../../../target/bin/replay
+
+# Layout first, then every proof, every must-fail edit and every program; the last line is the verdict.
+test:
+	@rt fmt --check
+	@rt ci
+
+# Builds the Rust original and makes its stored answers again. Needs rustc and the original's source: tools/oracle/README.md.
+answers:
+	@tools/oracle/build
+	@target/oracle/bin/answers crates/replay/data/rust.bin

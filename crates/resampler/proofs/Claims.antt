@@ -1,0 +1,43 @@
+-- The claims of specs/Claims.antt. Assumes nothing.
+use mathlib.Core.Path.{refl}
+use Rattle.stages.specs.Lists as Lists
+use Rattle.stages.specs.Run as Run
+use Rattle.stages.specs.Fixed as Fixed
+use Rattle.stages.specs.Rom as Rom
+use Rattle.stages.specs.Section as Section
+use Rattle.stages.specs.Reader as Reader
+use Rattle.stages.specs.Stage.Ar2 as Ar2
+use Rattle.stages.specs.Stage.Up2Hq as Up2Hq
+use Rattle.stages.specs.Stage.IirFir as IirFir
+use Rattle.stages.specs.Stage.Down2 as Down2
+use Rattle.stages.specs.Stage.Down2_3 as Down23
+use Rattle.stages.specs.Stage.AnaFiltBank1 as AnaFiltBank1
+use Rattle.resampler.specs.Pairs as Pairs
+use Rattle.resampler.specs.Record as Record
+use Rattle.resampler.specs.Block as Block
+use Rattle.resampler.specs.Claims.{CasesHold}
+
+-- both sides compute to one list of lists
+pub cases-hold : CasesHold
+unfolding
+    CasesHold
+    Lists.tabulate Lists.joined Lists.pairs Run.run Run.end
+    Fixed.wrapped Fixed.times Fixed.clipped Fixed.rounded Fixed.narrowed
+    Rom.silk-resampler-up2-hq-0 Rom.silk-resampler-up2-hq-1
+    Rom.silk-Resampler-1-6-COEFS Rom.silk-Resampler-2-3-COEFS-LQ Rom.silk-resampler-frac-FIR-12
+    Section.sectionX Section.sectionOut Section.sectionNext
+    Section.rowOut Section.rowNext Section.evenOut Section.oddOut Section.halvesNext
+    Reader.mirrored Reader.sum
+    Ar2.ar2 Ar2.ar2End Ar2.ar2Out Ar2.ar2After Ar2.ar2Next
+    Up2Hq.up2 Up2Hq.up2End Up2Hq.up2Even Up2Hq.up2Odd Up2Hq.up2Out Up2Hq.up2Next
+    IirFir.interpolation IirFir.interpolated
+    Down2.down2 Down2.down2End Down2.down2Sum Down2.down2Out Down2.down2Next
+    Down23.tapped Down23.groupOut Down23.down23
+    AnaFiltBank1.splitLow AnaFiltBank1.splitHigh AnaFiltBank1.splitNext
+    AnaFiltBank1.lowSum AnaFiltBank1.highSum AnaFiltBank1.lowOut AnaFiltBank1.highOut
+    Pairs.rate-id Pairs.delay-matrix-enc Pairs.delay-matrix-dec Pairs.delay
+    Pairs.filter Pairs.path Pairs.up2x Pairs.raised Pairs.increment
+    Record.living Record.live Record.liveDelay Record.recordOf Record.cleaned Record.fresh
+    Block.bytes Block.value Block.bitsOf Block.laid Block.weighed Block.check Block.body Block.blockOf
+    mathlib.Core.List.flatMap
+cases-hold = refl

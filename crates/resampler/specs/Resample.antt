@@ -1,0 +1,73 @@
+-- A call of the resampler: its signal, its two passes, and what a batch makes. Assumes nothing.
+use Prim.Native.Nat.{ℕ, _*_, _/_}
+use mathlib.Core.List.{List, [], _++_}
+use lib.IntN.{ℤ}
+use lib.ListN.{length, take, drop}
+use Rattle.stages.specs.Run.{passOut, passEnd}
+use Rattle.stages.specs.Stage.Ar2.{ar2End}
+use Rattle.stages.specs.Stage.Up2Hq.{up2, up2End}
+use Rattle.stages.specs.Stage.IirFir.{iirFir, iirFirCarried}
+use Rattle.stages.specs.Stage.DownFir.{Filter, downFir, downFirCarried}
+use Rattle.resampler.specs.declared.Record.{Record}
+use Rattle.resampler.specs.Pairs.{Pair, Path, copy, doubler, interpolator, down, path, increment}
+use Rattle.resampler.specs.Record.{Words, arrays, pairOf, live, liveDelay, recordOf}
+
+-- n samples of input are n / in-kHz milliseconds, and each makes out-kHz samples
+unfoldable pub made : Pair → ℕ → ℕ
+made p n = n / p .inKhz * p .outKhz
+
+-- ---- a batch xs
+
+-- what it puts out on a path: n samples, read at the increment from position 0 on
+unfoldable pub onPath : Path → ℕ → ℕ → Words → List ℤ → List ℤ
+onPath copy increment n w xs = xs
+onPath doubler increment n w xs = up2 (w .doubler) xs
+onPath interpolator increment n w xs = iirFir increment n (w .doubler) (w .samples) xs
+onPath (down f) increment n w xs = downFir f increment n (w .ar2) (w .fir) xs
+
+-- the words after it
+unfoldable pub afterPath : Path → Words → List ℤ → Words
+afterPath copy w xs = arrays [] [] [] []
+afterPath doubler w xs = arrays (up2End (w .doubler) xs) [] [] []
+afterPath interpolator w xs = arrays (up2End (w .doubler) xs) (iirFirCarried (w .doubler) (w .samples) xs) [] []
+afterPath (down f) w xs = arrays [] [] (ar2End (f .coefs) (w .ar2) xs) (downFirCarried f (w .ar2) (w .fir) xs)
+
+unfoldable pub batchOut : Pair → Words → List ℤ → List ℤ
+batchOut p w xs = onPath (path p) (increment p) (made p (length xs)) w xs
+
+unfoldable pub batchNext : Pair → Words → List ℤ → Words
+batchNext p = afterPath (path p)
+
+-- ---- a pass, in batches of at most 10 ms
+
+abbrev pub batchSize : Pair → ℕ
+batchSize p = 10 * p .inKhz
+
+unfoldable pub pass : Pair → Words → List ℤ → List ℤ
+pass p = passOut (batchOut p) (batchNext p) (batchSize p)
+
+unfoldable pub passWords : Pair → Words → List ℤ → Words
+passWords p = passEnd (batchNext p) (batchSize p)
+
+-- ---- a call
+
+-- the carried delay samples followed by the input: as many as the input are filtered, the others are carried on
+unfoldable pub signal : Record → List ℤ → List ℤ
+signal s xs = liveDelay s ++ xs
+
+-- the first millisecond of what is filtered, and the rest of it: a pass each
+unfoldable pub first : Record → List ℤ → List ℤ
+first s xs = take (s .inKhz) (take (length xs) (signal s xs))
+
+unfoldable pub rest : Record → List ℤ → List ℤ
+rest s xs = drop (s .inKhz) (take (length xs) (signal s xs))
+
+-- the words between the two passes
+unfoldable pub between : Record → List ℤ → Words
+between s xs = passWords (pairOf s) (live s) (first s xs)
+
+unfoldable pub converted : Record → List ℤ → List ℤ
+converted s xs = pass (pairOf s) (live s) (first s xs) ++ pass (pairOf s) (between s xs) (rest s xs)
+
+unfoldable pub after : Record → List ℤ → Record
+after s xs = recordOf (pairOf s) (passWords (pairOf s) (between s xs) (rest s xs)) (drop (length xs) (signal s xs))

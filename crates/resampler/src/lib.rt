@@ -1,0 +1,15 @@
+// The resampler: pairs of rates, records and parked blocks, over the stages.
+// From silk/resampler/mod.rs.
+
+// A line's whole state, by value: its pair, and every word and sample that any path can carry.
+// Which of them a pair uses is said in specs/Record.antt; the others are zero.
+pub struct Record {
+    pub direction: u8,
+    pub inKhz: u8,
+    pub outKhz: u8,
+    pub doubler: [i32; 6],
+    pub samples: [i16; 8],
+    pub ar2: [i32; 2],
+    pub fir: [i32; 36],
+    pub delay: [i16; 48],
+}

@@ -1,0 +1,95 @@
+-- Loops that fill a lent output from the front: at each turn, what is written and what is still to come is the whole.
+-- So an invariant speaks of what is left, and the turn unfolds the definition once. Assumes nothing.
+use mathlib.Core.Path.{_≡_, refl, sym, _∙_, ap}
+use mathlib.Core.List.{List, [], _∷_, _++_, append-nil}
+use Prim.Native.Nat.{ℕ, _+_, _<_, _≤_}
+use native.Mathlib.Numerals.{add-one}
+use native.Mathlib.Omega.{arith}
+use lib.ListN.{length, take, drop, getD, set, drop-of-length-le, length-append, length-set, take-append-drop}
+use lib.Seq.{length-take-le, take-suc-set, drop-set-lt, drop-drop, append-snoc}
+use Rattle.stages.specs.Run.{run, end}
+use Rattle.stages.specs.Outcome.{over}
+use Rattle.stages.proofs.Laws.Lists.{drop-next, run-length}
+
+-- ---- whatever it is filled with
+
+module _ {A : Type 0} (whole before : List A) where
+  -- at place k the output is o, and rest is still to come
+  pub record Filling (k : ℕ) (o rest : List A) : Type 0 where
+    pub len : length o ≡ length before
+    pub within : k ≤ length o
+    pub same : drop k o ≡ drop k before
+    pub filled : take k o ++ rest ≡ whole
+
+  pub fill-start : Filling 0 before whole
+  fill-start = record { len = refl; within = omega arith; same = refl; filled = refl }
+
+  -- a store
+  pub fill-one : {k : ℕ} {o rest : List A} {y : A} → Filling k o (y ∷ rest) → k < length o → Filling (k + 1) (set o k y) rest
+  fill-one {k} {o} {rest} {y} f h = record {
+    len = length-set o k y ∙ f .len;
+    within = omega (arith, length-set o k y);
+    same = drop-set-lt (k + 1) o k y (omega arith) ∙ sym (drop-drop 1 k o) ∙ ap (drop 1) (f .same) ∙ drop-drop 1 k before;
+    filled = rw (add-one, take-suc-set o k y h, append-snoc) (f .filled);
+  }
+
+  -- what is still to come has room, if the whole has
+  pub fill-room : {k : ℕ} {o : List A} (rest : List A) → Filling k o rest → length whole ≤ length before → k + length rest ≤ length o
+  fill-room {k} {o} rest f h =
+      omega (arith, ap length (f .filled), length-append (take k o) rest, length-take-le k o (f .within), f .len)
+
+  -- nothing is still to come
+  pub fill-end : {k : ℕ} {o : List A} → Filling k o [] → o ≡ over whole before
+  fill-end {k} {o} f =
+      let w : take k o ≡ whole = sym (append-nil (take k o)) ∙ f .filled in
+      let l : k ≡ length whole = sym (length-take-le k o (f .within)) ∙ ap length w in
+      sym (take-append-drop k o) ∙ rw (w, f .same, l) refl
+
+-- ---- a run that carries a state, one store a turn
+
+module _ {S A B : Type 0} (out : S → A → B) (next : S → A → S) (s₀ : S) (xs : List A) (before : List B) where
+  -- k outputs are written, the state is s, and the inputs `left` are still to come
+  pub record Running (k : ℕ) (o : List B) (s : S) (left : List A) : Type 0 where
+    pub room : length xs ≤ length before
+    pub filling : Filling (run out next s₀ xs) before k o (run out next s left)
+    pub state : end next s left ≡ end next s₀ xs
+
+  pub run-start : length xs ≤ length before → Running 0 before s₀ xs
+  run-start h = record { room = h; filling = fill-start (run out next s₀ xs) before; state = refl }
+
+  -- the next output has room
+  pub run-room : {k : ℕ} {o : List B} {s : S} {x : A} {left : List A} → Running k o s (x ∷ left) → k < length o
+  run-room {s = s} {x} {left} r =
+      let l = run-length out next s (x ∷ left) in
+      let m = fill-room (run out next s₀ xs) before _ (r .filling) (omega (arith, run-length out next s₀ xs, r .room)) in
+      omega arith
+
+  pub run-turn : {k : ℕ} {o : List B} {s s' : S} {x : A} {y : B} {left : List A} → Running k o s (x ∷ left)
+      → y ≡ out s x → s' ≡ next s x → Running (k + 1) (set o k y) s' left
+  unfolding run end
+  run-turn {k} {o} {s} {s'} {x} {y} {left} r e d = rw (e, d) (record {
+    room = r .room;
+    filling = fill-one (run out next s₀ xs) before (r .filling) (run-room r);
+    state = r .state;
+  })
+
+  pub run-end : {k : ℕ} {o : List B} {s : S} → Running k o s []
+      → (o ≡ over (run out next s₀ xs) before) × (s ≡ end next s₀ xs)
+  unfolding run end
+  run-end r = (fill-end (run out next s₀ xs) before (r .filling), r .state)
+
+  -- the same where the inputs are read in order, one a turn: at turn k those from k on are still to come
+  module _ {k : ℕ} {o : List B} {s : S} (r : Running k o s (drop k xs)) where
+    module _ (d : A) (h : k < length xs) where
+      next-first : Running k o s (getD xs k d ∷ drop (k + 1) xs)
+      next-first = rw (drop-next xs k d h) at r
+
+      pub read-room : k < length o
+      read-room = run-room next-first
+
+      pub read-turn : {s' : S} {y : B} → y ≡ out s (getD xs k d) → s' ≡ next s (getD xs k d)
+          → Running (k + 1) (set o k y) s' (drop (k + 1) xs)
+      read-turn e d = run-turn next-first e d
+
+    pub read-end : length xs ≤ k → (o ≡ over (run out next s₀ xs) before) × (s ≡ end next s₀ xs)
+    read-end h = run-end (rw (drop-of-length-le xs h) at r)

@@ -1,0 +1,65 @@
+-- The down filters (down_fir.rs): AR2's output behind the carried words, as many as the order, read by that many taps.
+-- Assumes nothing.
+use Prim.Native.Nat.{ℕ, _-_, _/_}
+use mathlib.Core.Bool.{Bool, true, false}
+use mathlib.Core.List.{List, [], _++_}
+use lib.IntN.{ℤ, pos, _+ℤ_}
+use lib.ListN.{drop, getD}
+use Rattle.stages.specs.Lists.{if_then_else_, tabulate, cut, carriedOn, _!_}
+use Rattle.stages.specs.Fixed.{wrapped, times, narrowed}
+use Rattle.stages.specs.Rom as Rom
+use Rattle.stages.specs.Reader.{read, mirrored, sum}
+use Rattle.stages.specs.Stage.Ar2.{ar2}
+
+-- a filter: its order, whether the outer samples are added in pairs first, and its table
+pub record Filter : Type 0 where
+  pub order : ℕ
+  pub paired : Bool
+  pub coefs : List ℤ
+
+abbrev pub down-3/4 : Filter
+down-3/4 = record { order = 18; paired = false; coefs = Rom.silk-Resampler-3-4-COEFS }
+
+abbrev pub down-2/3 : Filter
+down-2/3 = record { order = 18; paired = false; coefs = Rom.silk-Resampler-2-3-COEFS }
+
+abbrev pub down-1/2 : Filter
+down-1/2 = record { order = 24; paired = true; coefs = Rom.silk-Resampler-1-2-COEFS }
+
+abbrev pub down-1/3 : Filter
+down-1/3 = record { order = 36; paired = true; coefs = Rom.silk-Resampler-1-3-COEFS }
+
+abbrev pub down-1/4 : Filter
+down-1/4 = record { order = 36; paired = true; coefs = Rom.silk-Resampler-1-4-COEFS }
+
+abbrev pub down-1/6 : Filter
+down-1/6 = record { order = 36; paired = true; coefs = Rom.silk-Resampler-1-6-COEFS }
+
+-- the table's rows of taps, half the order to a row
+unfoldable pub rows : Filter → List (List ℤ)
+rows f = cut (f .order / 2) (drop 2 (f .coefs))
+
+-- order 18: a row forward and its mirror backward, each product rounded down by itself
+unfoldable pub apart : Filter → ℕ → List ℤ → ℤ
+apart f fraction buf = sum times (pos 0) (mirrored (rows f) fraction) buf
+
+-- orders 24 and 36: the outermost two samples added, then the next two, one product for each pair
+unfoldable pub outerSums : Filter → List ℤ → List ℤ
+outerSums f buf = tabulate 0 (f .order / 2) (λ i. wrapped (buf ! i +ℤ buf ! (f .order - 1 - i)))
+
+unfoldable pub inPairs : Filter → List ℤ → ℤ
+inPairs f buf = sum times (pos 0) (getD (rows f) 0 []) (outerSums f buf)
+
+-- before narrowing
+unfoldable pub filtered : Filter → ℕ → List ℤ → ℤ
+filtered f fraction buf = if f .paired then inPairs f buf else apart f fraction buf
+
+unfoldable pub fir : Filter → ℕ → List ℤ → ℤ
+fir f fraction buf = narrowed 6 (filtered f fraction buf)
+
+-- n outputs of a batch xs, from the AR2 words a and the carried words
+unfoldable pub downFir : Filter → ℕ → ℕ → List ℤ → List ℤ → List ℤ → List ℤ
+downFir f increment n a carried xs = read (fir f) increment n (carried ++ ar2 (f .coefs) a xs)
+
+unfoldable pub downFirCarried : Filter → List ℤ → List ℤ → List ℤ → List ℤ
+downFirCarried f a carried xs = carriedOn (f .order) carried (ar2 (f .coefs) a xs)

@@ -1,0 +1,258 @@
+//! Writes the stored answers of the original. README.md describes the file.
+//! Run: answers FILE.
+
+mod probes;
+mod values;
+mod word;
+
+use unopus::silk::resampler::ar2::silk_resampler_private_AR2;
+use unopus::silk::resampler::rom::*;
+use values::{Dice, EDGES};
+
+const SUM: usize = 0;
+const DIFFERENCE: usize = 1;
+const FOURFOLD: usize = 2;
+const PRODUCT: usize = 3;
+const NARROWING: usize = 4;
+const AR2: usize = 5;
+
+#[derive(Default)]
+struct Answers {
+    bytes: Vec<u8>,
+    cases: [usize; 6],
+    checked: usize,
+}
+
+impl Answers {
+    fn case(
+        &mut self,
+        kind: usize,
+        given: &[i32],
+        samples: &[i16],
+        outputs: &[i32],
+        after: &[i32],
+    ) {
+        let lengths = [kind, given.len(), samples.len(), outputs.len(), after.len()];
+        let lengths = lengths.map(|n| n as i32);
+        let samples: Vec<i32> = samples.iter().map(|x| *x as i32).collect();
+        for number in [&lengths, given, &samples, outputs, after].concat() {
+            self.bytes.extend(number.to_le_bytes());
+        }
+        self.cases[kind] += 1;
+    }
+
+    /// A case of one word operation; `shown`: a call of the original gave the same answer.
+    fn word(&mut self, kind: usize, given: &[i32], answer: i32, shown: bool) {
+        self.case(kind, given, &[], &[], &[answer]);
+        self.checked += shown as usize;
+    }
+}
+
+fn main() {
+    let Some(file) = std::env::args_os().nth(1) else {
+        eprintln!("usage: answers FILE");
+        std::process::exit(2);
+    };
+    let mut answers = Answers::default();
+    let mut dice = Dice::new(1);
+    sums(&mut answers, &mut dice);
+    differences(&mut answers, &mut dice);
+    fourfolds(&mut answers, &mut dice);
+    products(&mut answers, &mut dice);
+    narrowings(&mut answers, &mut dice);
+    ar2_runs(&mut answers, &mut dice);
+    std::fs::write(file, &answers.bytes).expect("the file can be written");
+
+    let [sums, differences, fourfolds, products, narrowings, ar2_runs] = answers.cases;
+    println!(
+        "{sums} sums, {differences} differences, {fourfolds} four-folds, {products} products, \
+         {narrowings} narrowings, {ar2_runs} AR2 runs; \
+         {} word answers cross-checked against a call of the original",
+        answers.checked
+    );
+}
+
+fn sums(answers: &mut Answers, dice: &mut Dice) {
+    for (a, b) in pairs(dice) {
+        let answer = word::sum(a, b);
+        let shown = probes::sum(a, b, answer);
+        answers.word(SUM, &[a, b], answer, shown);
+    }
+}
+
+fn differences(answers: &mut Answers, dice: &mut Dice) {
+    for (a, b) in pairs(dice) {
+        let answer = word::difference(a, b);
+        let shown = probes::difference(a, b, answer);
+        answers.word(DIFFERENCE, &[a, b], answer, shown);
+    }
+}
+
+fn fourfolds(answers: &mut Answers, dice: &mut Dice) {
+    let mut words = EDGES.to_vec();
+    words.extend((0..584).map(|_| dice.word()));
+    for x in words {
+        let answer = word::fourfold(x);
+        let shown = probes::fourfold(x, answer);
+        answers.word(FOURFOLD, &[x], answer, shown);
+    }
+}
+
+fn products(answers: &mut Answers, dice: &mut Dice) {
+    for (c, y) in factors(dice) {
+        let answer = word::product(c, y);
+        let shown = probes::product(c, y, answer);
+        answers.word(PRODUCT, &[c, y], answer, shown);
+    }
+}
+
+fn narrowings(answers: &mut Answers, dice: &mut Dice) {
+    for n in [6, 10, 11, 15] {
+        for x in wide_words(n, dice) {
+            let answer = word::narrow(x, n);
+            let shown = probes::narrow(x, n, answer);
+            answers.word(NARROWING, &[x, n], answer, shown);
+        }
+    }
+}
+
+/// Every pair of coefficients with each choice of words and of samples, and at each short length.
+fn ar2_runs(answers: &mut Answers, dice: &mut Dice) {
+    for coefficients in coefficient_pairs(dice) {
+        for words in [zero_words, any_words, extreme_words] {
+            for samples in [silence, impulse, full_scale, any_samples] {
+                let length = dice.between(0, 96) as usize;
+                ar2_run(answers, coefficients, words(dice), &samples(length, dice));
+            }
+        }
+        for length in [0, 1, 2, 3, 96] {
+            ar2_run(
+                answers,
+                coefficients,
+                any_words(dice),
+                &any_samples(length, dice),
+            );
+        }
+    }
+}
+
+/// The answer of the original itself.
+fn ar2_run(answers: &mut Answers, coefficients: [i16; 2], words: [i32; 2], samples: &[i16]) {
+    let [a0, a1] = coefficients.map(|c| c as i32);
+    let given = [a0, a1, words[0], words[1]];
+    let mut after = words;
+    let mut outputs = vec![0; samples.len()];
+    silk_resampler_private_AR2(&mut after, &mut outputs, samples, &coefficients);
+    answers.case(AR2, &given, samples, &outputs, &after);
+}
+
+/// All pairs of edges, pairs of any words, and words with 256 times a sample.
+fn pairs(dice: &mut Dice) -> Vec<(i32, i32)> {
+    let mut pairs = all_pairs(&EDGES);
+    pairs.extend((0..172).map(|_| (dice.word(), dice.word())));
+    pairs.extend((0..172).map(|_| (dice.word(), 256 * dice.sample() as i32)));
+    pairs
+}
+
+/// Coefficients at an edge with all edges, those of the tables with one word each, and any others.
+fn factors(dice: &mut Dice) -> Vec<(i32, i32)> {
+    let mut factors = all_pairs(&[
+        -65535, -65534, -32769, -32768, -32767, -1, 0, 1, 32767, 32768, 39083, 39809, 41246, 55542,
+        65534, 65535,
+    ]);
+    factors.extend(table_coefficients().into_iter().map(|c| (c, dice.word())));
+    while factors.len() < 600 {
+        factors.push((dice.between(-65535, 65535) as i32, dice.word()));
+    }
+    factors
+}
+
+fn all_pairs(firsts: &[i32]) -> Vec<(i32, i32)> {
+    firsts.iter().flat_map(|a| EDGES.map(|b| (*a, b))).collect()
+}
+
+fn table_coefficients() -> Vec<i32> {
+    let fractions = silk_resampler_frac_FIR_12.as_flattened();
+    let tables = [&ar2_tables()[..], &[fractions]].concat();
+    let mut coefficients: Vec<i32> = tables.concat().into_iter().map(i32::from).collect();
+    for sections in [&probes::UP2[..], &probes::DOWN2, &probes::SPLIT] {
+        coefficients.extend(sections);
+    }
+    coefficients
+}
+
+/// The tables that begin with a pair for AR2.
+fn ar2_tables() -> [&'static [i16]; 7] {
+    [
+        &silk_Resampler_3_4_COEFS,
+        &silk_Resampler_2_3_COEFS,
+        &silk_Resampler_1_2_COEFS,
+        &silk_Resampler_1_3_COEFS,
+        &silk_Resampler_1_4_COEFS,
+        &silk_Resampler_1_6_COEFS,
+        &silk_Resampler_2_3_COEFS_LQ,
+    ]
+}
+
+/// Words at the edges of rounding by `n` bits: where 32 bits end, where it clips, at halves.
+fn wide_words(n: i32, dice: &mut Dice) -> Vec<i32> {
+    let half = 1i64 << (n - 1);
+    let mut words = EDGES.to_vec();
+    for edge in [(1 << 31) - half, 65535 * half, -65537 * half, half, -half] {
+        words.extend((-4..=4).map(|step| (edge + step) as i32));
+    }
+    words.extend((0..30).map(|_| {
+        let odd = 2 * dice.sample() as i64 + 1;
+        (odd * half + dice.between(-1, 1)) as i32
+    }));
+    words.extend((0..59).map(|_| dice.word()));
+    words
+}
+
+/// The first two entries of each table, the largest and smallest pairs, and four others.
+fn coefficient_pairs(dice: &mut Dice) -> Vec<[i16; 2]> {
+    let mut pairs: Vec<[i16; 2]> = ar2_tables().map(|table| [table[0], table[1]]).to_vec();
+    for a0 in [i16::MIN, i16::MAX] {
+        pairs.extend([[a0, i16::MIN], [a0, i16::MAX]]);
+    }
+    pairs.extend((0..4).map(|_| [dice.sample(), dice.sample()]));
+    pairs
+}
+
+fn zero_words(_: &mut Dice) -> [i32; 2] {
+    [0, 0]
+}
+
+fn any_words(dice: &mut Dice) -> [i32; 2] {
+    [dice.word(), dice.word()]
+}
+
+fn extreme_words(dice: &mut Dice) -> [i32; 2] {
+    let extremes = [i32::MIN, i32::MIN + 1, i32::MAX - 1, i32::MAX];
+    [0, 0].map(|_| extremes[dice.between(0, 3) as usize])
+}
+
+fn silence(length: usize, _: &mut Dice) -> Vec<i16> {
+    vec![0; length]
+}
+
+fn impulse(length: usize, dice: &mut Dice) -> Vec<i16> {
+    let mut samples = silence(length, dice);
+    if let Some(first) = samples.first_mut() {
+        *first = dice.sample();
+    }
+    samples
+}
+
+/// The largest and the smallest sample by turns.
+fn full_scale(length: usize, _: &mut Dice) -> Vec<i16> {
+    [i16::MAX, i16::MIN]
+        .into_iter()
+        .cycle()
+        .take(length)
+        .collect()
+}
+
+fn any_samples(length: usize, dice: &mut Dice) -> Vec<i16> {
+    (0..length).map(|_| dice.sample()).collect()
+}
