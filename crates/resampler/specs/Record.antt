@@ -4,7 +4,6 @@ use mathlib.Core.List.{List, [], _++_}
 use lib.IntN.{ℤ}
 use lib.ListN.{take, drop}
 use Rattle.stages.specs.Lists.{padded}
-use Rattle.stages.specs.Stage.DownFir.{Filter}
 use Rattle.resampler.specs.declared.Record.{Record}
 use Rattle.resampler.specs.Pairs.{Pair, pair, Path, copy, doubler, interpolator, down, path, delay}
 

@@ -7,7 +7,7 @@ use Rattle.stages.specs.Run.{passOut, passEnd}
 use Rattle.stages.specs.Stage.Ar2.{ar2End}
 use Rattle.stages.specs.Stage.Up2Hq.{up2, up2End}
 use Rattle.stages.specs.Stage.IirFir.{iirFir, iirFirCarried}
-use Rattle.stages.specs.Stage.DownFir.{Filter, downFir, downFirCarried}
+use Rattle.stages.specs.Stage.DownFir.{downFir, downFirCarried}
 use Rattle.resampler.specs.declared.Record.{Record}
 use Rattle.resampler.specs.Pairs.{Pair, Path, copy, doubler, interpolator, down, path, increment}
 use Rattle.resampler.specs.Record.{Words, arrays, pairOf, live, liveDelay, recordOf}

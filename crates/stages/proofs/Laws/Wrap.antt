@@ -6,7 +6,7 @@ use mathlib.Core.Bool.{Bool, true, false, not}
 use Prim.Native.Nat.{ℕ, suc, _+_, _*_, _-_, _/_, _%_, _^_, _<_, _≤_}
 use native.Mathlib.Omega.{arith}
 use native.Mathlib.Nat as NatL
-use lib.Dec.{T, ltb, ltb→lt, nltb→le}
+use lib.Dec.{T, ltb}
 use lib.IntN.{ℤ, pos, negsuc, negℤ, _+ℤ_, _-ℤ_, _*ℤ_}
 use lib.Signed.{shrZ}
 use lib.Pow.{pow-pos}
@@ -15,7 +15,7 @@ use mir.ValLaws.{toZ-fits}
 use mir.Val.{SFits, toZ, ofZ, sel, hbits, bits}
 use Rattle.stages.specs.Fixed.{wrapped}
 use Rattle.stages.proofs.Laws.Integer.{P, N, pn-sum, p-neg, n-neg, p-scale, n-scale, pn-or, from-pn, shr-floor}
-use Rattle.stages.proofs.Laws.Ring.{#, lit, _⊕_, _⊖_, _⊗_, of}
+use Rattle.stages.proofs.Laws.Ring.{#, _⊖_, of}
 
 -- x and y differ by a multiple of m
 pub record Cong (m : ℕ) (x y : ℤ) : Type 0 where

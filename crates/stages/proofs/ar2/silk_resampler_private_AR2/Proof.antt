@@ -1,25 +1,19 @@
 -- `stages::ar2::silk_resampler_private_AR2` meets its contract: at each turn the outputs written, followed by what the
 -- definition makes of the samples left, are the whole, and a turn unfolds the definition once. Assumes nothing.
-use Prim.Native.Nat.{_-_, _+_, _≤_}
+use Prim.Native.Nat.{_-_, _≤_}
 use mathlib.Core.Path.{_≡_, _∙_, ap}
 use native.Mathlib.Omega.{arith}
 use borrow.Author.Needs.{needs}
-use mathlib.Core.List.{_∷_}
 use denote.Ref.{now}
 use lib.IntN.{pos}
-use lib.ListN.{length, drop, getD, drop-of-length-le}
-use lib.Seq.{drop-cons}
+use lib.ListN.{length, drop}
 use mir.Syntax.{w16, w32}
-use mir.Val.{toZ, ofZ}
-use native.Mathlib.Numerals.{add-one}
 use Rattle.stages.specs.Lists.{_!_}
 use Rattle.stages.specs.Stage.Ar2.{ar2Out, ar2After, ar2Next, ar2, ar2End}
 use Rattle.stages.proofs.Laws.Fit.{back, at}
 use Rattle.stages.proofs.Laws.Loop.{Running, run-start, read-room, read-turn, read-end}
 use Rattle.stages.proofs.ar2.silk_resampler_private_AR2.Statement.{statement}
 use Rattle.stages.proofs.ar2.silk_resampler_private_AR2.Tie as tie
-use Rattle.stages.proofs.ar2.silk_resampler_private_AR2.Reads as reads
-use Rattle.stages.proofs.ar2.silk_resampler_private_AR2.Lts as lts
 
 abbrev Inv-loop : tie.InvT-loop
 Inv-loop outQ8₀ input AQ14 s₀ k₀ outQ8 s k =

@@ -1,9 +1,7 @@
 -- `stages::fixed::mul_i16` meets its contract: an i16 is below 65536 in size, and widening keeps it.
 -- Assumes nothing.
 use borrow.Author.Needs.{needs}
-use mathlib.Core.Path.{_∙_}
 use mir.Syntax.{w16, w32}
-use Rattle.stages.specs.Fixed.{times}
 use Rattle.stages.proofs.Laws.Fit.{back, cast, widen16, coef-small}
 use Rattle.stages.proofs.fixed.mul_i16.Statement.{statement}
 use Rattle.stages.proofs.fixed.mul_i16.Tie as tie
