@@ -15,7 +15,7 @@ use Rattle.stages.specs.Stage.AnaFiltBank1 as AnaFiltBank1
 use Rattle.resampler.specs.Pairs as Pairs
 use Rattle.resampler.specs.Record as Record
 use Rattle.resampler.specs.Block as Block
-use Rattle.resampler.specs.Claims.{CasesHold}
+use Rattle.resampler.specs.Claims.{CasesHold, ThirtySupported, IncrementsReach}
 
 -- both sides compute to one list of lists
 pub cases-hold : CasesHold
@@ -41,3 +41,12 @@ unfolding
     Block.bytes Block.value Block.bitsOf Block.laid Block.weighed Block.check Block.body Block.blockOf
     mathlib.Core.List.flatMap
 cases-hold = refl
+
+pub thirty-supported : ThirtySupported
+unfolding ThirtySupported Pairs.thirty Pairs.supported mathlib.Core.List.flatMap
+thirty-supported = (refl, refl)
+
+pub increments-reach : IncrementsReach
+unfolding
+    IncrementsReach Pairs.thirty Pairs.filter Pairs.path Pairs.up2x Pairs.raised Pairs.increment mathlib.Core.List.flatMap
+increments-reach = refl
