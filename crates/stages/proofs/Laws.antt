@@ -5,4 +5,6 @@ pub mod Wrap
 pub mod Fit
 pub mod Narrow
 pub mod Lists
+pub mod Lengths
 pub mod Loop
+pub mod Outcome

@@ -1,9 +1,16 @@
 // The stages of the SILK resampler, with the two decimators and the two-band split: samples and carried words in, samples
 // and carried words out, no rates and no records. Each file has the name of the Rust's; `fixed` and `answer` are ours.
+mod allpass;
+mod ana_filt_bank_1;
 mod answer;
 mod ar2;
+mod down2;
 pub mod fixed;
 pub mod rom;
 
+pub use ana_filt_bank_1::Split;
+pub use ana_filt_bank_1::silk_ana_filt_bank_1;
 pub use answer::Answer;
 pub use ar2::silk_resampler_private_AR2;
+pub use down2::Halved;
+pub use down2::silk_resampler_down2;

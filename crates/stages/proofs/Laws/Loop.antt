@@ -5,11 +5,11 @@ use mathlib.Core.List.{List, [], _∷_, _++_, append-nil}
 use Prim.Native.Nat.{ℕ, _+_, _<_, _≤_}
 use native.Mathlib.Numerals.{add-one}
 use native.Mathlib.Omega.{arith}
-use lib.ListN.{length, take, drop, getD, set, drop-of-length-le, length-append, length-set, take-append-drop}
+use lib.ListN.{length, take, drop, set, length-append, length-set, take-append-drop}
 use lib.Seq.{length-take-le, take-suc-set, drop-set-lt, drop-drop, append-snoc}
 use Rattle.stages.specs.Run.{run, end}
 use Rattle.stages.specs.Outcome.{over}
-use Rattle.stages.proofs.Laws.Lists.{drop-next, run-length}
+use Rattle.stages.proofs.Laws.Lists.{run-length}
 
 -- ---- whatever it is filled with
 
@@ -57,39 +57,26 @@ module _ {S A B : Type 0} (out : S → A → B) (next : S → A → S) (s₀ : S
   pub run-start : length xs ≤ length before → Running 0 before s₀ xs
   run-start h = record { room = h; filling = fill-start (run out next s₀ xs) before; state = refl }
 
-  -- the next output has room
-  pub run-room : {k : ℕ} {o : List B} {s : S} {x : A} {left : List A} → Running k o s (x ∷ left) → k < length o
-  run-room {s = s} {x} {left} r =
-      let l = run-length out next s (x ∷ left) in
-      let m = fill-room (run out next s₀ xs) before _ (r .filling) (omega (arith, run-length out next s₀ xs, r .room)) in
-      omega arith
+  module _ {k : ℕ} {o : List B} {s : S} {at left : List A} {x : A} (first : at ≡ x ∷ left) (r : Running k o s at) where
+    turned : Running k o s (x ∷ left)
+    turned = rw first at r
 
-  pub run-turn : {k : ℕ} {o : List B} {s s' : S} {x : A} {y : B} {left : List A} → Running k o s (x ∷ left)
-      → y ≡ out s x → s' ≡ next s x → Running (k + 1) (set o k y) s' left
-  unfolding run end
-  run-turn {k} {o} {s} {s'} {x} {y} {left} r e d = rw (e, d) (record {
-    room = r .room;
-    filling = fill-one (run out next s₀ xs) before (r .filling) (run-room r);
-    state = r .state;
-  })
+    -- the next output has room
+    pub run-room : k < length o
+    run-room =
+        let l = run-length out next s (x ∷ left) in
+        let m = fill-room (run out next s₀ xs) before _ (turned .filling) (omega (arith, run-length out next s₀ xs, r .room)) in
+        omega arith
 
-  pub run-end : {k : ℕ} {o : List B} {s : S} → Running k o s []
+    pub run-turn : {s' : S} {y : B} → y ≡ out s x → s' ≡ next s x → Running (k + 1) (set o k y) s' left
+    unfolding run end
+    run-turn e d = rw (e, d) (record {
+      room = r .room;
+      filling = fill-one (run out next s₀ xs) before (turned .filling) run-room;
+      state = turned .state;
+    })
+
+  pub run-end : {k : ℕ} {o : List B} {s : S} {at : List A} → at ≡ [] → Running k o s at
       → (o ≡ over (run out next s₀ xs) before) × (s ≡ end next s₀ xs)
   unfolding run end
-  run-end r = (fill-end (run out next s₀ xs) before (r .filling), r .state)
-
-  -- the same where the inputs are read in order, one a turn: at turn k those from k on are still to come
-  module _ {k : ℕ} {o : List B} {s : S} (r : Running k o s (drop k xs)) where
-    module _ (d : A) (h : k < length xs) where
-      next-first : Running k o s (getD xs k d ∷ drop (k + 1) xs)
-      next-first = rw (drop-next xs k d h) at r
-
-      pub read-room : k < length o
-      read-room = run-room next-first
-
-      pub read-turn : {s' : S} {y : B} → y ≡ out s (getD xs k d) → s' ≡ next s (getD xs k d)
-          → Running (k + 1) (set o k y) s' (drop (k + 1) xs)
-      read-turn e d = run-turn next-first e d
-
-    pub read-end : length xs ≤ k → (o ≡ over (run out next s₀ xs) before) × (s ≡ end next s₀ xs)
-    read-end h = run-end (rw (drop-of-length-le xs h) at r)
+  run-end none r = let l = rw none at r in (fill-end (run out next s₀ xs) before (l .filling), l .state)

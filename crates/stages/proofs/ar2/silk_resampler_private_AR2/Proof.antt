@@ -11,7 +11,8 @@ use mir.Syntax.{w16, w32}
 use Rattle.stages.specs.Lists.{_!_}
 use Rattle.stages.specs.Stage.Ar2.{ar2Out, ar2After, ar2Next, ar2, ar2End}
 use Rattle.stages.proofs.Laws.Fit.{back, at}
-use Rattle.stages.proofs.Laws.Loop.{Running, run-start, read-room, read-turn, read-end}
+use Rattle.stages.proofs.Laws.Lists.{drop-next, drop-none}
+use Rattle.stages.proofs.Laws.Loop.{Running, run-start, run-room, run-turn, run-end}
 use Rattle.stages.proofs.ar2.silk_resampler_private_AR2.Statement.{statement}
 use Rattle.stages.proofs.ar2.silk_resampler_private_AR2.Tie as tie
 
@@ -40,7 +41,7 @@ mul-out32 c = search needs
 slice-set-from-out32 : tie.Need-slice-set-from-out32 Inv-loop μ-loop
 slice-set-from-out32 c =
     let t = c .before .before in
-    read-room _ _ _ _ _ (t .before .loop .inv .1) (pos 0) (t .loop-test .taken)
+    run-room _ _ _ _ _ (drop-next _ _ (pos 0) (t .loop-test .taken)) (t .before .loop .inv .1)
 
 moved-requires : tie.Need-moved-requires Inv-loop μ-loop
 moved-requires c κs = search needs
@@ -60,7 +61,7 @@ loop-again c =
     let x = now (a .input) ! l .k in
     let out : at w32 (f .filtered .result) ≡ ar2Out (l .s .w) x =
     back w32 (f .filtered .result) (f .filtered .ok) ∙ f .filtered .ensures ∙ ap (ar2Out (l .s .w)) (back w16 x (f .before .filtered-arg .given)) in
-    (omega arith, read-turn _ _ _ _ _ (l .inv .1) (pos 0) (f .before .before .loop-test .taken) out (c .moved .ensures ∙ ap (ar2After (now (a .AQ14)) (l .s .w)) out))
+    (omega arith, run-turn _ _ _ _ _ (drop-next _ _ (pos 0) (f .before .before .loop-test .taken)) (l .inv .1) out (c .moved .ensures ∙ ap (ar2After (now (a .AQ14)) (l .s .w)) out))
 
 same-length : tie.Need-same-length Inv-loop μ-loop
 same-length c = c .before .before .loop .inv .1 .filling .len
@@ -69,7 +70,7 @@ returns : tie.Need-returns Inv-loop μ-loop
 unfolding ar2 ar2End
 returns c =
     let l = c .before .before .loop in
-    let (filled, words) = read-end _ _ _ _ _ (l .inv .1) (c .before .loop-test .left) in
+    let (filled, words) = run-end _ _ _ _ _ (drop-none _ _ (c .before .loop-test .left)) (l .inv .1) in
     record { filled = filled; carried = words }
 
 pub silk-resampler-private-AR2-spec : {M : Type 1} → statement M
