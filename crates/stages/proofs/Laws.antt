@@ -4,6 +4,7 @@ pub mod Ring
 pub mod Wrap
 pub mod Fit
 pub mod Narrow
+pub mod Section
 pub mod Lists
 pub mod Lengths
 pub mod Loop

@@ -1,5 +1,6 @@
 // The stages of the SILK resampler, with the two decimators and the two-band split: samples and carried words in, samples
-// and carried words out, no rates and no records. Each file has the name of the Rust's; `fixed` and `answer` are ours.
+// and carried words out, no rates and no records. Each file has the name of the Rust's; `allpass`, `answer` and `fixed` are
+// ours.
 mod allpass;
 mod ana_filt_bank_1;
 mod answer;
@@ -7,6 +8,7 @@ mod ar2;
 mod down2;
 pub mod fixed;
 pub mod rom;
+mod up2_hq;
 
 pub use ana_filt_bank_1::Split;
 pub use ana_filt_bank_1::silk_ana_filt_bank_1;
@@ -14,3 +16,4 @@ pub use answer::Answer;
 pub use ar2::silk_resampler_private_AR2;
 pub use down2::Halved;
 pub use down2::silk_resampler_down2;
+pub use up2_hq::silk_resampler_private_up2_HQ;

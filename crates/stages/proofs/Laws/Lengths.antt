@@ -1,12 +1,46 @@
 -- How many samples each stage puts out, and how many words it carries on. Assumes nothing.
-use mathlib.Core.Path.{_≡_, _∙_}
-use mathlib.Core.List.{List}
-use Prim.Native.Nat.{_/_}
+use mathlib.Core.Path.{_≡_, refl, _∙_, ap}
+use mathlib.Core.List.{List, [], _∷_, _++_}
+use Prim.Native.Nat.{ℕ, suc, _+_, _*_, _/_, _≤_}
+use native.Mathlib.Nat.{not-suc-le-zero, le-of-suc-le-suc}
+use native.Mathlib.Omega.{arith}
 use lib.IntN.{ℤ}
-use lib.ListN.{length}
+use lib.ListN.{length, take, drop, length-append, length-drop}
+use lib.Seq.{length-take-le}
+use Rattle.stages.specs.Lists.{joined}
+use Rattle.stages.specs.Run.{run, end}
+use Rattle.stages.specs.Rom.{silk-resampler-up2-hq-0, silk-resampler-up2-hq-1}
+use Rattle.stages.specs.Section.{scaled, sectionOut, rowNext}
+use Rattle.stages.specs.Stage.Up2Hq.{up2, up2End, up2Out, up2Next}
 use Rattle.stages.specs.Stage.Down2.{down2, down2Out, down2Next}
 use Rattle.stages.specs.Stage.AnaFiltBank1.{splitLow, splitHigh, lowOut, highOut, splitNext}
-use Rattle.stages.proofs.Laws.Lists.{run-length, pairs-length}
+use Rattle.stages.proofs.Laws.Lists.{run-length, end-keeps, pairs-length}
+
+-- ---- the doubler
+
+rowNext-length : (cs ss : List ℤ) (x : ℤ) → length cs ≤ length ss → length (rowNext cs ss x) ≡ length cs
+unfolding rowNext
+rowNext-length [] ss x h = refl
+rowNext-length (a ∷ cs) [] x h = absurd (not-suc-le-zero h)
+rowNext-length (a ∷ cs) (s ∷ ss) x h = ap suc (rowNext-length cs ss (sectionOut a s x) (le-of-suc-le-suc h))
+
+pub up2Next-length : (w : List ℤ) (x : ℤ) → length w ≡ 6 → length (up2Next w x) ≡ 6
+unfolding up2Next silk-resampler-up2-hq-0 silk-resampler-up2-hq-1
+up2Next-length w x h =
+    let e = rowNext-length silk-resampler-up2-hq-0 (take 3 w) (scaled x) (omega (arith, length-take-le 3 w (omega arith))) in
+    let o = rowNext-length silk-resampler-up2-hq-1 (drop 3 w) (scaled x) (omega (arith, length-drop 3 w)) in
+    length-append (rowNext silk-resampler-up2-hq-0 (take 3 w) (scaled x)) _ ∙ omega arith
+
+pub up2End-length : (w xs : List ℤ) → length w ≡ 6 → length (up2End w xs) ≡ 6
+unfolding up2End
+up2End-length w xs h = end-keeps up2Next (λ v. length v ≡ 6) up2Next-length w xs h
+
+pub up2-length : (w xs : List ℤ) → length (up2 w xs) ≡ 2 * length xs
+unfolding up2 run joined up2Out
+up2-length w [] = refl
+up2-length w (x ∷ xs) = let e = up2-length (up2Next w x) xs in omega arith
+
+-- ---- the 1/2 decimator and the split
 
 pub down2-length : (w xs : List ℤ) → length (down2 w xs) ≡ length xs / 2
 unfolding down2

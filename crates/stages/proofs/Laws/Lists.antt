@@ -7,7 +7,7 @@ use native.Mathlib.Omega.{arith}
 use lib.ListN.{length, drop, getD, drop-of-length-le, length-drop}
 use lib.Seq.{drop-cons}
 use Rattle.stages.specs.Lists.{pairs}
-use Rattle.stages.specs.Run.{run}
+use Rattle.stages.specs.Run.{run, end}
 
 -- one entry, and the others: the turn k of a loop
 pub drop-next : {A : Type 0} (xs : List A) (k : ℕ) (d : A) → k < length xs → drop k xs ≡ getD xs k d ∷ drop (k + 1) xs
@@ -46,3 +46,9 @@ module _ {S A B : Type 0} (out : S → A → B) (next : S → A → S) where
   unfolding run
   run-length s [] = refl
   run-length s (x ∷ xs) = ap suc (run-length (next s x) xs)
+
+-- what holds of a state and is kept by each step holds at the end
+pub end-keeps : {S A : Type 0} (next : S → A → S) (P : S → Type 0) → ((s : S) (x : A) → P s → P (next s x)) → (s : S) (xs : List A) → P s → P (end next s xs)
+unfolding end
+end-keeps next P keep s [] h = h
+end-keeps next P keep s (x ∷ xs) h = end-keeps next P keep (next s x) xs (keep s x h)

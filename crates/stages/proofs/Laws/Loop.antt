@@ -7,6 +7,7 @@ use native.Mathlib.Numerals.{add-one}
 use native.Mathlib.Omega.{arith}
 use lib.ListN.{length, take, drop, set, length-append, length-set, take-append-drop}
 use lib.Seq.{length-take-le, take-suc-set, drop-set-lt, drop-drop, append-snoc}
+use Rattle.stages.specs.Lists.{joined}
 use Rattle.stages.specs.Run.{run, end}
 use Rattle.stages.specs.Outcome.{over}
 use Rattle.stages.proofs.Laws.Lists.{run-length}
@@ -32,6 +33,11 @@ module _ {A : Type 0} (whole before : List A) where
     same = drop-set-lt (k + 1) o k y (omega arith) ∙ sym (drop-drop 1 k o) ∙ ap (drop 1) (f .same) ∙ drop-drop 1 k before;
     filled = rw (add-one, take-suc-set o k y h, append-snoc) (f .filled);
   }
+
+  -- two stores
+  pub fill-two : {k : ℕ} {o rest : List A} {y z : A} → Filling k o (y ∷ z ∷ rest) → k + 1 < length o
+      → Filling (k + 1 + 1) (set (set o k y) (k + 1) z) rest
+  fill-two {k} {o} {rest} {y} {z} f h = fill-one (fill-one f (omega arith)) (omega (arith, length-set o k y))
 
   -- what is still to come has room, if the whole has
   pub fill-room : {k : ℕ} {o : List A} (rest : List A) → Filling k o rest → length whole ≤ length before → k + length rest ≤ length o
@@ -80,3 +86,38 @@ module _ {S A B : Type 0} (out : S → A → B) (next : S → A → S) (s₀ : S
       → (o ≡ over (run out next s₀ xs) before) × (s ≡ end next s₀ xs)
   unfolding run end
   run-end none r = let l = rw none at r in (fill-end (run out next s₀ xs) before (l .filling), l .state)
+
+-- ---- the same with two stores a turn
+
+module _ {S A B : Type 0} (out : S → A → List B) (next : S → A → S) (s₀ : S) (xs : List A) (before : List B) where
+  -- all that the run puts out
+  abbrev whole : List B
+  whole = joined (run out next s₀ xs)
+
+  pub record Doubling (k : ℕ) (o : List B) (s : S) (left : List A) : Type 0 where
+    pub room : length whole ≤ length before
+    pub filling : Filling whole before k o (joined (run out next s left))
+    pub state : end next s left ≡ end next s₀ xs
+
+  pub double-start : length whole ≤ length before → Doubling 0 before s₀ xs
+  double-start h = record { room = h; filling = fill-start whole before; state = refl }
+
+  module _ {k : ℕ} {o : List B} {s : S} {at left : List A} {x : A} {y z : B} (first : at ≡ x ∷ left) (e : y ∷ z ∷ [] ≡ out s x) (r : Doubling k o s at) where
+    two-first : Filling whole before k o (y ∷ z ∷ joined (run out next (next s x) left))
+    unfolding run joined
+    two-first = rw (← e) at (rw first at (r .filling))
+
+    pub double-room : k + 1 < length o
+    double-room = let m = fill-room whole before _ two-first (r .room) in omega arith
+
+    pub double-turn : {s' : S} → s' ≡ next s x → Doubling (k + 1 + 1) (set (set o k y) (k + 1) z) s' left
+    unfolding end
+    double-turn d = rw d (record {
+      room = r .room;
+      filling = fill-two whole before two-first double-room;
+      state = rw first at (r .state);
+    })
+
+  pub double-end : {k : ℕ} {o : List B} {s : S} {at : List A} → at ≡ [] → Doubling k o s at → (o ≡ over whole before) × (s ≡ end next s₀ xs)
+  unfolding run joined end
+  double-end none r = (fill-end whole before (rw none at (r .filling)), rw none at (r .state))
