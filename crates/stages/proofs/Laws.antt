@@ -4,8 +4,9 @@ pub mod Ring
 pub mod Wrap
 pub mod Fit
 pub mod Narrow
-pub mod Section
 pub mod Lists
+pub mod Section
+pub mod Dot
 pub mod Lengths
 pub mod Loop
 pub mod Outcome

@@ -8,6 +8,7 @@ mod ar2;
 mod down2;
 pub mod fixed;
 pub mod rom;
+mod taps;
 mod up2_hq;
 
 pub use ana_filt_bank_1::Split;

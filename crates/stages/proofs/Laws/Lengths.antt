@@ -12,9 +12,10 @@ use Rattle.stages.specs.Run.{run, end}
 use Rattle.stages.specs.Rom.{silk-resampler-up2-hq-0, silk-resampler-up2-hq-1}
 use Rattle.stages.specs.Section.{scaled, sectionOut, rowNext}
 use Rattle.stages.specs.Stage.Up2Hq.{up2, up2End, up2Out, up2Next}
+use Rattle.stages.specs.Stage.DownFir.{outerSums}
 use Rattle.stages.specs.Stage.Down2.{down2, down2Out, down2Next}
 use Rattle.stages.specs.Stage.AnaFiltBank1.{splitLow, splitHigh, lowOut, highOut, splitNext}
-use Rattle.stages.proofs.Laws.Lists.{run-length, end-keeps, pairs-length}
+use Rattle.stages.proofs.Laws.Lists.{run-length, end-keeps, tabulate-length, pairs-length}
 
 -- ---- the doubler
 
@@ -39,6 +40,12 @@ pub up2-length : (w xs : List ℤ) → length (up2 w xs) ≡ 2 * length xs
 unfolding up2 run joined up2Out
 up2-length w [] = refl
 up2-length w (x ∷ xs) = let e = up2-length (up2Next w x) xs in omega arith
+
+-- ---- the down filters
+
+pub outerSums-length : (order : ℕ) (buf : List ℤ) → length (outerSums order buf) ≡ order / 2
+unfolding outerSums
+outerSums-length order buf = tabulate-length 0 (order / 2) _
 
 -- ---- the 1/2 decimator and the split
 

@@ -1,12 +1,14 @@
 -- Laws of the lists of specs/Lists.antt and of the runs of specs/Run.antt. Assumes nothing.
 use mathlib.Core.Path.{_≡_, refl, ap, _∙_}
 use mathlib.Core.List.{List, [], _∷_}
-use Prim.Native.Nat.{ℕ, suc, _+_, _*_, _/_, _<_, _≤_}
+use Prim.Native.Nat.{ℕ, zero, suc, _+_, _*_, _-_, _/_, _<_, _≤_}
+use native.Mathlib.Nat.{add-zero, not-suc-le-zero}
 use native.Mathlib.Numerals.{add-one}
 use native.Mathlib.Omega.{arith}
-use lib.ListN.{length, drop, getD, drop-of-length-le, length-drop}
+use lib.IntN.{ℤ, pos}
+use lib.ListN.{length, take, drop, getD, drop-of-length-le, length-drop}
 use lib.Seq.{drop-cons}
-use Rattle.stages.specs.Lists.{pairs}
+use Rattle.stages.specs.Lists.{tabulate, pairs, _!_}
 use Rattle.stages.specs.Run.{run, end}
 
 -- one entry, and the others: the turn k of a loop
@@ -17,7 +19,44 @@ drop-next xs k d h = rw add-one (drop-cons xs k d h)
 pub drop-none : {A : Type 0} (xs : List A) (k : ℕ) → length xs ≤ k → drop k xs ≡ []
 drop-none xs k h = drop-of-length-le xs h
 
--- the same two by two
+-- three in a row
+pub take-three : (xs : List ℤ) (at : ℕ) → at + 3 ≤ length xs → take 3 (drop at xs) ≡ xs ! at ∷ xs ! (at + 1) ∷ xs ! (at + 2) ∷ []
+take-three xs at h =
+    let e : at + 1 ≡ suc at = omega arith in
+    let f : at + 2 ≡ suc (suc at) = omega arith in
+    rw (drop-cons xs at (pos 0) (omega arith), drop-cons xs (suc at) (pos 0) (omega arith), drop-cons xs (suc (suc at)) (pos 0) (omega arith), e, f)
+
+-- ---- tables
+
+module _ {A : Type 0} where
+  pub tabulate-length : (i n : ℕ) (f : ℕ → A) → length (tabulate i n f) ≡ n
+  unfolding tabulate
+  tabulate-length i zero f = refl
+  tabulate-length i (suc n) f = ap suc (tabulate-length (i + 1) n f)
+
+  tabulate-from : (i n j : ℕ) (f : ℕ → A) (d : A) → j < n → getD (tabulate i n f) j d ≡ f (i + j)
+  unfolding tabulate
+  tabulate-from i zero j f d h = absurd (not-suc-le-zero h)
+  tabulate-from i (suc n) zero f d h = rw add-zero
+  tabulate-from i (suc n) (suc j) f d h =
+      let e : i + 1 + j ≡ i + suc j = omega arith in
+      tabulate-from (i + 1) n j f d (omega arith) ∙ ap f e
+
+  pub tabulate-at : (n k : ℕ) (f : ℕ → A) (d : A) → k < n → getD (tabulate 0 n f) k d ≡ f k
+  tabulate-at n k f d h = let e : 0 + k ≡ k = omega arith in tabulate-from 0 n k f d h ∙ ap f e
+
+  -- one entry, and the others: the turn k of a loop
+  pub tabulate-next : (n k : ℕ) (f : ℕ → A) → k < n → tabulate k (n - k) f ≡ f k ∷ tabulate (k + 1) (n - (k + 1)) f
+  unfolding tabulate
+  tabulate-next n k f h = let e : n - k ≡ suc (n - (k + 1)) = omega arith in rw e refl
+
+  pub tabulate-none : (n k : ℕ) (f : ℕ → A) → n ≤ k → tabulate k (n - k) f ≡ []
+  unfolding tabulate
+  tabulate-none n k f h = let e : n - k ≡ 0 = omega arith in rw e refl
+
+-- ---- pairs
+
+-- an entry with the one behind it: the turn k of a loop
 pub pairs-length : {A : Type 0} (xs : List A) → length (pairs xs) ≡ length xs / 2
 unfolding pairs
 pairs-length [] = refl

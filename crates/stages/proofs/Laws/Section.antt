@@ -7,13 +7,8 @@ use lib.IntN.{ℤ, pos}
 use lib.ListN.{length, take, drop}
 use lib.Seq.{drop-cons}
 use Rattle.stages.specs.Lists.{_!_}
+use Rattle.stages.proofs.Laws.Lists.{take-three}
 use Rattle.stages.specs.Section.{sectionOut, sectionNext, rowOut, rowNext}
-
-take-three : (w : List ℤ) (at : ℕ) → at + 3 ≤ length w → take 3 (drop at w) ≡ w ! at ∷ w ! (at + 1) ∷ w ! (at + 2) ∷ []
-take-three w at h =
-    let e : at + 1 ≡ suc at = omega arith in
-    let f : at + 2 ≡ suc (suc at) = omega arith in
-    rw (drop-cons w at (pos 0) (omega arith), drop-cons w (suc at) (pos 0) (omega arith), drop-cons w (suc (suc at)) (pos 0) (omega arith), e, f)
 
 -- what each puts out is the next one's input
 pub row-three : (c w : List ℤ) (at : ℕ) (x : ℤ) → length c ≡ 3 → at + 3 ≤ length w →

@@ -44,11 +44,11 @@ unfoldable pub apart : Filter → ℕ → List ℤ → ℤ
 apart f fraction buf = sum times (pos 0) (mirrored (rows f) fraction) buf
 
 -- orders 24 and 36: the outermost two samples added, then the next two, one product for each pair
-unfoldable pub outerSums : Filter → List ℤ → List ℤ
-outerSums f buf = tabulate 0 (f .order / 2) (λ i. wrapped (buf ! i +ℤ buf ! (f .order - 1 - i)))
+unfoldable pub outerSums : ℕ → List ℤ → List ℤ
+outerSums order buf = tabulate 0 (order / 2) (λ i. wrapped (buf ! i +ℤ buf ! (order - 1 - i)))
 
 unfoldable pub inPairs : Filter → List ℤ → ℤ
-inPairs f buf = sum times (pos 0) (getD (rows f) 0 []) (outerSums f buf)
+inPairs f buf = sum times (pos 0) (getD (rows f) 0 []) (outerSums (f .order) buf)
 
 -- before narrowing
 unfoldable pub filtered : Filter → ℕ → List ℤ → ℤ
