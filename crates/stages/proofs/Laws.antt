@@ -7,6 +7,7 @@ pub mod Narrow
 pub mod Lists
 pub mod Section
 pub mod Dot
+pub mod Taps
 pub mod Lengths
 pub mod Loop
 pub mod Outcome

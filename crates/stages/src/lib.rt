@@ -6,10 +6,12 @@ mod ana_filt_bank_1;
 mod answer;
 mod ar2;
 mod down2;
+mod down_fir;
 pub mod fixed;
 pub mod rom;
 mod taps;
 mod up2_hq;
+mod words;
 
 pub use ana_filt_bank_1::Split;
 pub use ana_filt_bank_1::silk_ana_filt_bank_1;

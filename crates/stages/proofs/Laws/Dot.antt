@@ -21,6 +21,11 @@ module _ (product : ℤ → ℤ → ℤ) where
   sum-append s (c ∷ cs) ds [] h = absurd (not-suc-le-zero h)
   sum-append s (c ∷ cs) ds (y ∷ ys) h = sum-append (wrapped (s +ℤ product c y)) cs ds ys (le-of-suc-le-suc h)
 
+  -- the same, where the first are n
+  pub sum-parts : (s : ℤ) (cs ds ys : List ℤ) (n : ℕ) → length cs ≡ n → n ≤ length ys
+      → sum product (sum product s cs ys) ds (drop n ys) ≡ sum product s (cs ++ ds) ys
+  sum-parts s cs ds ys n e h = rw (← e) (sym (sum-append s cs ds ys (omega arith)))
+
   -- three, written out
   abbrev pub third : ℤ → ℤ → ℤ → ℤ → ℤ → ℤ → ℤ → ℤ
   third s c₀ y₀ c₁ y₁ c₂ y₂ = wrapped (wrapped (wrapped (s +ℤ product c₀ y₀) +ℤ product c₁ y₁) +ℤ product c₂ y₂)

@@ -2,13 +2,13 @@
 use mathlib.Core.Path.{_≡_, refl, ap, _∙_}
 use mathlib.Core.List.{List, [], _∷_}
 use Prim.Native.Nat.{ℕ, zero, suc, _+_, _*_, _-_, _/_, _<_, _≤_}
-use native.Mathlib.Nat.{add-zero, not-suc-le-zero}
+use native.Mathlib.Nat.{add-zero, mul-suc, not-suc-le-zero}
 use native.Mathlib.Numerals.{add-one}
 use native.Mathlib.Omega.{arith}
 use lib.IntN.{ℤ, pos}
 use lib.ListN.{length, take, drop, getD, drop-of-length-le, length-drop}
-use lib.Seq.{drop-cons}
-use Rattle.stages.specs.Lists.{tabulate, pairs, _!_}
+use lib.Seq.{drop-cons, drop-drop}
+use Rattle.stages.specs.Lists.{tabulate, pieces, cut, pairs, _!_}
 use Rattle.stages.specs.Run.{run, end}
 
 -- one entry, and the others: the turn k of a loop
@@ -53,6 +53,47 @@ module _ {A : Type 0} where
   pub tabulate-none : (n k : ℕ) (f : ℕ → A) → n ≤ k → tabulate k (n - k) f ≡ []
   unfolding tabulate
   tabulate-none n k f h = let e : n - k ≡ 0 = omega arith in rw e refl
+
+-- ---- pieces
+
+module _ {A : Type 0} where
+  pieces-fuel : (k m n : ℕ) (xs : List A) → 0 < n → length xs ≤ k → length xs ≤ m → pieces k n xs ≡ pieces m n xs
+  unfolding pieces
+  pieces-fuel zero zero n xs p h l = refl
+  pieces-fuel zero (suc m) n [] p h l = refl
+  pieces-fuel zero (suc m) n (x ∷ xs) p h l = absurd (not-suc-le-zero h)
+  pieces-fuel (suc k) zero n [] p h l = refl
+  pieces-fuel (suc k) zero n (x ∷ xs) p h l = absurd (not-suc-le-zero l)
+  pieces-fuel (suc k) (suc m) n [] p h l = refl
+  pieces-fuel (suc k) (suc m) n (x ∷ xs) p h l =
+      let d = length-drop n (x ∷ xs) in
+      ap (λ (t : List (List A)). take n (x ∷ xs) ∷ t) (pieces-fuel k m n (drop n (x ∷ xs)) p (omega arith) (omega arith))
+
+  pub cut-nil : (n : ℕ) → cut {A = A} n [] ≡ []
+  unfolding cut pieces
+  cut-nil n = refl
+
+  -- one piece, and the pieces of what is left
+  pub cut-next : (n : ℕ) (xs : List A) → 0 < n → 0 < length xs → cut n xs ≡ take n xs ∷ cut n (drop n xs)
+  unfolding cut pieces
+  cut-next n [] p h = absurd (not-suc-le-zero h)
+  cut-next n (x ∷ xs) p h =
+      let d = length-drop n (x ∷ xs) in
+      ap (λ (t : List (List A)). take n (x ∷ xs) ∷ t) (pieces-fuel (length xs) (length (drop n (x ∷ xs))) n (drop n (x ∷ xs)) p (omega arith) (omega arith))
+
+  -- piece k of whole pieces, and how many there are
+  pub cut-at : (n k : ℕ) (xs : List A) → 0 < n → n * k + n ≤ length xs → getD (cut n xs) k [] ≡ take n (drop (n * k) xs)
+  cut-at n zero xs p h = let e : n * 0 ≡ 0 = omega arith in rw (cut-next n xs p (omega arith), e) refl
+  cut-at n (suc k) xs p h =
+      let m : n * suc k ≡ n + n * k = mul-suc n k ∙ omega arith in
+      rw (cut-next n xs p (omega arith)) (cut-at n k (drop n xs) p (omega (arith, length-drop n xs)) ∙ rw (drop-drop (n * k) n xs, m) refl)
+
+  pub cut-count : (n k : ℕ) (xs : List A) → 0 < n → length xs ≡ n * k → length (cut n xs) ≡ k
+  cut-count n zero [] p h = rw (cut-nil n) refl
+  cut-count n zero (x ∷ xs) p h = absurd (omega arith)
+  cut-count n (suc k) xs p h =
+      let m : n * suc k ≡ n + n * k = mul-suc n k ∙ omega arith in
+      rw (cut-next n xs p (omega arith)) (ap suc (cut-count n k (drop n xs) p (length-drop n xs ∙ omega arith)))
 
 -- ---- pairs
 

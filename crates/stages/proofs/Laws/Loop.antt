@@ -1,12 +1,13 @@
 -- Loops that fill a lent output from the front: at each turn, what is written and what is still to come is the whole.
 -- So an invariant speaks of what is left, and the turn unfolds the definition once. Assumes nothing.
 use mathlib.Core.Path.{_≡_, refl, sym, _∙_, ap}
-use mathlib.Core.List.{List, [], _∷_, _++_, append-nil}
-use Prim.Native.Nat.{ℕ, _+_, _<_, _≤_}
+use mathlib.Core.List.{List, [], _∷_, _++_, append-nil, append-assoc}
+use Prim.Native.Nat.{ℕ, _+_, _-_, _<_, _≤_}
 use native.Mathlib.Numerals.{add-one}
 use native.Mathlib.Omega.{arith}
-use lib.ListN.{length, take, drop, set, length-append, length-set, take-append-drop}
-use lib.Seq.{length-take-le, take-suc-set, drop-set-lt, drop-drop, append-snoc}
+use borrow.Rule.Slice.PartMut.{midOf, putMid}
+use lib.ListN.{length, take, drop, set, length-drop, drop-of-length-le, length-append, length-set, take-append-drop}
+use lib.Seq.{length-take-le, take-all, take-at, drop-at, take-suc-set, drop-set-lt, drop-drop, append-snoc}
 use Rattle.stages.specs.Lists.{joined}
 use Rattle.stages.specs.Run.{run, end}
 use Rattle.stages.specs.Outcome.{over}
@@ -38,6 +39,30 @@ module _ {A : Type 0} (whole before : List A) where
   pub fill-two : {k : ℕ} {o rest : List A} {y z : A} → Filling k o (y ∷ z ∷ rest) → k + 1 < length o
       → Filling (k + 1 + 1) (set (set o k y) (k + 1) z) rest
   fill-two {k} {o} {rest} {y} {z} f h = fill-one (fill-one f (omega arith)) (omega (arith, length-set o k y))
+
+  -- what is left of the output is lent to a stage that leaves ys in front of it
+  pub fill-part : {k : ℕ} {o rest zs : List A} (ys : List A) → Filling k o (ys ++ rest) → k + length ys ≤ length o
+      → zs ≡ over ys (midOf k (length o - k) o) → Filling (k + length ys) (putMid k (length o - k) o zs) rest
+  fill-part {k} {o} {rest} {zs} ys f h e =
+      let n = length o - k in
+      let ld = length-drop k o in
+      let lt = length-take-le k o (f .within) in
+      let all = take-all n (drop k o) (omega arith) in
+      let after = drop-of-length-le (drop k o) {i = n} (omega arith) in
+      let is : putMid k n o zs ≡ (take k o ++ ys) ++ drop (k + length ys) o =
+      rw (e, all, after, append-nil, drop-drop (length ys) k o) (sym (append-assoc (take k o) ys (drop (k + length ys) o))) in
+      let front : length (take k o ++ ys) ≡ k + length ys = length-append (take k o) ys ∙ omega arith in
+      let total = length-append (take k o ++ ys) (drop (k + length ys) o) in
+      let l : length (putMid k n o zs) ≡ length o = ap length is ∙ total ∙ omega (arith, length-drop (k + length ys) o) in
+      record {
+        len = l ∙ f .len;
+        within = omega arith;
+        same = ap (drop (k + length ys)) is ∙ drop-at (take k o ++ ys) (drop (k + length ys) o) (k + length ys) front
+            ∙ sym (drop-drop (length ys) k o) ∙ ap (drop (length ys)) (f .same) ∙ drop-drop (length ys) k before;
+        filled = ap (λ (t : List A). take (k + length ys) t ++ rest) is
+            ∙ ap (λ (t : List A). t ++ rest) (take-at (take k o ++ ys) (drop (k + length ys) o) (k + length ys) front)
+            ∙ append-assoc (take k o) ys rest ∙ f .filled;
+      }
 
   -- what is still to come has room, if the whole has
   pub fill-room : {k : ℕ} {o : List A} (rest : List A) → Filling k o rest → length whole ≤ length before → k + length rest ≤ length o

@@ -1,8 +1,8 @@
 -- The down filters (down_fir.rs): AR2's output behind the carried words, as many as the order, read by that many taps.
 -- Assumes nothing.
 use Prim.Native.Nat.{ℕ, _-_, _/_}
-use mathlib.Core.Bool.{Bool, true, false}
 use mathlib.Core.List.{List, [], _++_}
+use lib.Dec.{ltb}
 use lib.IntN.{ℤ, pos, _+ℤ_}
 use lib.ListN.{drop, getD}
 use Rattle.stages.specs.Lists.{if_then_else_, tabulate, cut, carriedOn, _!_}
@@ -11,29 +11,31 @@ use Rattle.stages.specs.Rom as Rom
 use Rattle.stages.specs.Reader.{read, mirrored, sum}
 use Rattle.stages.specs.Stage.Ar2.{ar2}
 
--- a filter: its order, whether the outer samples are added in pairs first, and its table
+-- a filter: its order and its table
 pub record Filter : Type 0 where
   pub order : ℕ
-  pub paired : Bool
   pub coefs : List ℤ
 
+abbrev pub filterOf : ℕ → List ℤ → Filter
+filterOf order coefs = record { order = order; coefs = coefs }
+
 abbrev pub down-3/4 : Filter
-down-3/4 = record { order = 18; paired = false; coefs = Rom.silk-Resampler-3-4-COEFS }
+down-3/4 = filterOf 18 Rom.silk-Resampler-3-4-COEFS
 
 abbrev pub down-2/3 : Filter
-down-2/3 = record { order = 18; paired = false; coefs = Rom.silk-Resampler-2-3-COEFS }
+down-2/3 = filterOf 18 Rom.silk-Resampler-2-3-COEFS
 
 abbrev pub down-1/2 : Filter
-down-1/2 = record { order = 24; paired = true; coefs = Rom.silk-Resampler-1-2-COEFS }
+down-1/2 = filterOf 24 Rom.silk-Resampler-1-2-COEFS
 
 abbrev pub down-1/3 : Filter
-down-1/3 = record { order = 36; paired = true; coefs = Rom.silk-Resampler-1-3-COEFS }
+down-1/3 = filterOf 36 Rom.silk-Resampler-1-3-COEFS
 
 abbrev pub down-1/4 : Filter
-down-1/4 = record { order = 36; paired = true; coefs = Rom.silk-Resampler-1-4-COEFS }
+down-1/4 = filterOf 36 Rom.silk-Resampler-1-4-COEFS
 
 abbrev pub down-1/6 : Filter
-down-1/6 = record { order = 36; paired = true; coefs = Rom.silk-Resampler-1-6-COEFS }
+down-1/6 = filterOf 36 Rom.silk-Resampler-1-6-COEFS
 
 -- the table's rows of taps, half the order to a row
 unfoldable pub rows : Filter → List (List ℤ)
@@ -50,9 +52,9 @@ outerSums order buf = tabulate 0 (order / 2) (λ i. wrapped (buf ! i +ℤ buf ! 
 unfoldable pub inPairs : Filter → List ℤ → ℤ
 inPairs f buf = sum times (pos 0) (getD (rows f) 0 []) (outerSums (f .order) buf)
 
--- before narrowing
+-- before narrowing; the orders above 18 are those in pairs
 unfoldable pub filtered : Filter → ℕ → List ℤ → ℤ
-filtered f fraction buf = if f .paired then inPairs f buf else apart f fraction buf
+filtered f fraction buf = if ltb 18 (f .order) then inPairs f buf else apart f fraction buf
 
 unfoldable pub fir : Filter → ℕ → List ℤ → ℤ
 fir f fraction buf = narrowed 6 (filtered f fraction buf)

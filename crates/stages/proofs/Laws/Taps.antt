@@ -1,0 +1,42 @@
+-- From the taps that a definition picks out of a filter's rows to those that the code reads from its flat table.
+-- Assumes nothing.
+use mathlib.Core.Path.{_≡_, refl, sym, _∙_, ap}
+use mathlib.Core.List.{List, [], _++_, reverse}
+use Prim.Native.Nat.{ℕ, _+_, _*_, _-_, _/_, _<_, _≤_}
+use native.Mathlib.Nat.{mul-lt-mul-of-pos-right, mul-le-mul-left, mul-comm, mul-suc}
+use native.Mathlib.Omega.{arith}
+use lib.IntN.{ℤ}
+use lib.ListN.{length, take, drop, getD, length-drop}
+use lib.Seq.{drop-drop}
+use Rattle.stages.specs.Lists.{cut}
+use Rattle.stages.specs.Reader.{mirrored}
+use Rattle.stages.specs.Stage.DownFir.{Filter, filterOf, rows}
+use Rattle.stages.proofs.Laws.Lists.{cut-at, cut-count}
+
+-- the row of a fraction is one of the rows
+pub row-below : (n fraction : ℕ) → fraction < 65536 → 0 < n → fraction * n / 65536 < n
+row-below n fraction h p = let m = mul-lt-mul-of-pos-right h p in omega arith
+
+-- a table of n rows of w behind two constants
+module _ (w n : ℕ) (cs : List ℤ) (p : 0 < w) (l : length cs ≡ 2 + w * n) where
+  pub row-at : (k : ℕ) → k < n → getD (cut w (drop 2 cs)) k [] ≡ take w (drop (2 + w * k) cs)
+  row-at k h =
+      let m = mul-le-mul-left w h in
+      let e = mul-suc w k in
+      cut-at w k (drop 2 cs) p (omega (arith, length-drop 2 cs)) ∙ rw (drop-drop (w * k) 2 cs) refl
+
+  pub row-first : 0 < n → getD (cut w (drop 2 cs)) 0 [] ≡ take w (drop 2 cs)
+  row-first q = let e : w * 0 ≡ 0 = omega arith in row-at 0 q ∙ rw e refl
+
+  pub row-count : length (cut w (drop 2 cs)) ≡ n
+  row-count = cut-count w n (drop 2 cs) p (length-drop 2 cs ∙ omega arith)
+
+  -- the taps of a fraction
+  pub mirrored-at : (fraction : ℕ) → fraction < 65536 → 0 < n →
+      let k = fraction * n / 65536 in
+      mirrored (cut w (drop 2 cs)) fraction ≡ take w (drop (2 + w * k) cs) ++ reverse (take w (drop (2 + w * (n - 1 - k)) cs))
+  unfolding mirrored
+  mirrored-at fraction h q =
+      let k = fraction * n / 65536 in
+      let b = row-below n fraction h q in
+      rw (row-count, row-at k b, row-at (n - 1 - k) (omega arith)) refl

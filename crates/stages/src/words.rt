@@ -1,0 +1,31 @@
+// Copies of words, as the Rust makes them between a record's arrays and a stage's buffer.
+ghost use Prim.Native.Nat.{_≤_};
+ghost use mathlib.Core.Path.{_≡_};
+ghost use lib.ListN.{length};
+ghost use Rattle.stages.specs.Outcome.{over};
+
+// Copies the words to the front of the output.
+pub fn copy(out: &mut [i32], from: &[i32])
+    requires { ⌜ length (now from) ≤ length (now out) ⌝ }
+    ensures { λ r. ⌜ now (out .exit) ≡ over (now (from .entry)) (now (out .entry)) ⌝ }
+{
+    let mut k = 0;
+    while k < from.len() {
+        let x = from[k];
+        out[k] = x;
+        k += 1;
+    }
+}
+
+// The same for samples.
+pub fn copy_samples(out: &mut [i16], from: &[i16])
+    requires { ⌜ length (now from) ≤ length (now out) ⌝ }
+    ensures { λ r. ⌜ now (out .exit) ≡ over (now (from .entry)) (now (out .entry)) ⌝ }
+{
+    let mut k = 0;
+    while k < from.len() {
+        let x = from[k];
+        out[k] = x;
+        k += 1;
+    }
+}
