@@ -10,4 +10,5 @@ pub mod Dot
 pub mod Taps
 pub mod Lengths
 pub mod Loop
+pub mod Reading
 pub mod Outcome

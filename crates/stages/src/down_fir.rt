@@ -10,7 +10,7 @@ ghost use Prim.Native.Nat.{_+_, _*_, _-_, _/_, _%_, _<_, _≤_};
 ghost use lib.ListN.{length, take, drop};
 ghost use Rattle.stages.specs.Reader.{read as reading};
 ghost use Rattle.stages.specs.Outcome.{over};
-ghost use Rattle.stages.specs.Stage.DownFir.{filterOf, apart, inPairs, fir};
+ghost use Rattle.stages.specs.Stage.DownFir.{Fitting, filterOf, apart, fir};
 
 // Order 18: nine taps of the fraction's row forward, nine of its mirror backward.
 fn apart_of(cs: &[i16], rows: usize, fraction: usize, ys: &[i32]) -> i32
@@ -25,11 +25,38 @@ fn apart_of(cs: &[i16], rows: usize, fraction: usize, ys: &[i32]) -> i32
 
 // One output: the samples from a whole position on, at a fraction.
 fn output(cs: &[i16], order: usize, rows: usize, fraction: usize, ys: &[i32]) -> i16
-    requires { ⌜ (18 ≤ order) × (order / 2 % 3 ≡ 0) × (length (now cs) ≡ 2 + order / 2 * rows) × (0 < rows) × (rows ≤ 3) × (fraction < 65536) × (order ≤ length (now ys)) ⌝ }
+    requires { ⌜ Fitting order rows (now cs) ⌝ }
+    requires { ⌜ (fraction < 65536) × (order ≤ length (now ys)) ⌝ }
     ensures { λ r. ⌜ r ≡ fir (filterOf order (now (cs .entry))) fraction (now (ys .entry)) ⌝ }
 {
     if order <= 18 {
         return fixed::narrow(apart_of(cs, rows, fraction, ys), 6);
     }
     fixed::narrow(taps::half_inward(cs, 2, ys, order), 6)
+}
+
+// The first n outputs that are read from the buffer, an increment apart.
+fn read(
+    increment: usize,
+    n: usize,
+    cs: &[i16],
+    order: usize,
+    rows: usize,
+    buf: &[i32],
+    out: &mut [i16],
+)
+    requires { ⌜ Fitting order rows (now cs) ⌝ }
+    requires { ⌜ (order ≤ length (now buf)) × (n * increment < 65536 * (length (now buf) - order) + increment) ⌝ }
+    requires { ⌜ (increment < 16777216) × (length (now buf) ≤ 516) × (n ≤ length (now out)) ⌝ }
+    ensures { λ r. ⌜ now (out .exit) ≡ over (reading (fir (filterOf order (now (cs .entry)))) increment n (now (buf .entry))) (now (out .entry)) ⌝ }
+{
+    let mut j = 0;
+    let mut p = 0;
+    while j < n {
+        let at = p / 65536;
+        let y = output(cs, order, rows, p % 65536, &buf[at..]);
+        out[j] = y;
+        p += increment;
+        j += 1;
+    }
 }

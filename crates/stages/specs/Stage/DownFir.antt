@@ -1,10 +1,11 @@
 -- The down filters (down_fir.rs): AR2's output behind the carried words, as many as the order, read by that many taps.
 -- Assumes nothing.
-use Prim.Native.Nat.{ℕ, _-_, _/_}
+use mathlib.Core.Path.{_≡_}
+use Prim.Native.Nat.{ℕ, _+_, _*_, _-_, _/_, _%_, _<_, _≤_}
 use mathlib.Core.List.{List, [], _++_}
 use lib.Dec.{ltb}
 use lib.IntN.{ℤ, pos, _+ℤ_}
-use lib.ListN.{drop, getD}
+use lib.ListN.{length, drop, getD}
 use Rattle.stages.specs.Lists.{if_then_else_, tabulate, cut, carriedOn, _!_}
 use Rattle.stages.specs.Fixed.{wrapped, times, narrowed}
 use Rattle.stages.specs.Rom as Rom
@@ -40,6 +41,15 @@ down-1/6 = filterOf 36 Rom.silk-Resampler-1-6-COEFS
 -- the table's rows of taps, half the order to a row
 unfoldable pub rows : Filter → List (List ℤ)
 rows f = cut (f .order / 2) (drop 2 (f .coefs))
+
+-- what a table must be for an order: two constants, then one to three rows of half the order, in threes
+pub record Fitting (order rows : ℕ) (coefs : List ℤ) : Type 0 where
+  pub least : 18 ≤ order
+  pub most : order ≤ 36
+  pub threes : order / 2 % 3 ≡ 0
+  pub entries : length coefs ≡ 2 + order / 2 * rows
+  pub some : 0 < rows
+  pub few : rows ≤ 3
 
 -- order 18: a row forward and its mirror backward, each product rounded down by itself
 unfoldable pub apart : Filter → ℕ → List ℤ → ℤ

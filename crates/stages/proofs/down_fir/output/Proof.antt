@@ -21,7 +21,7 @@ apart-of-requires : tie.Need-apart-of-requires
 apart-of-requires c κs =
     let p = c .before .pre in
     let e : c .before .args .order ≡ 18 = omega arith in
-    (rw e at (p .2), p .3, p .4, p .5, omega arith)
+    (rw e at (p .0 .entries), p .0 .some, p .0 .few, p .1 .0, omega arith)
 
 narrow-requires : tie.Need-narrow-requires
 narrow-requires c κs = search needs
@@ -38,8 +38,8 @@ half-inward-requires : tie.Need-half-inward-requires
 half-inward-requires c κs =
     let p = c .before .pre in
     let a = c .before .args in
-    let m = mul-le-mul-left (a .order / 2) (p .3) in
-    (omega arith, p .6, p .1)
+    let m = mul-le-mul-left (a .order / 2) (p .0 .some) in
+    (omega arith, p .1 .1, p .0 .threes)
 
 narrow-requires-2 : tie.Need-narrow-requires-2
 narrow-requires-2 c κs = search needs
@@ -52,7 +52,7 @@ returns-2 c =
     let a = t .before .args in
     let p = t .before .pre in
     let cs = now (a .cs) in
-    let row = row-first (a .order / 2) (a .rows) cs (omega arith) (p .2) (p .3) in
+    let row = row-first (a .order / 2) (a .rows) cs (omega arith) (p .0 .entries) (p .0 .some) in
     simp (lt-ltb _ _ (t .if1 .left))
     (back w16 (c .narrow2 .result) (c .narrow2 .ok) ∙ c .narrow2 .ensures
     ∙ ap (narrowed 6) (back w32 (s .half-inward .result) (s .half-inward .ok) ∙ s .half-inward .ensures

@@ -1,0 +1,52 @@
+-- A loop that reads a buffer at j increments, as specs/Reader.antt says: its invariant, its turn, its end. Assumes nothing.
+use mathlib.Core.Path.{_≡_, refl, _∙_}
+use mathlib.Core.List.{List, _∷_}
+use Prim.Native.Nat.{ℕ, _+_, _*_, _-_, _/_, _%_, _<_, _≤_}
+use native.Mathlib.Nat.{add-mul, mul-le-mul-right}
+use native.Mathlib.Omega.{arith}
+use lib.IntN.{ℤ}
+use lib.ListN.{length, drop, set}
+use Rattle.stages.specs.Lists.{tabulate}
+use Rattle.stages.specs.Outcome.{over}
+use Rattle.stages.specs.Reader.{read}
+use Rattle.stages.proofs.Laws.Lists.{tabulate-next, tabulate-none}
+use Rattle.stages.proofs.Laws.Loop.{Filling, fill-start, fill-one, fill-end}
+
+module _ {B : Type 0} (f : ℕ → List ℤ → B) (increment n : ℕ) (buf : List ℤ) (before : List B) where
+  abbrev sample : ℕ → B
+  sample j = f (j * increment % 65536) (drop (j * increment / 65536) buf)
+
+  -- j samples are written, and the position is p
+  pub record Reading (j p : ℕ) (o : List B) : Type 0 where
+    pub within : j ≤ n
+    pub room : n ≤ length before
+    pub place : p ≡ j * increment
+    pub filling : Filling (read f increment n buf) before j o (tabulate j (n - j) sample)
+
+  pub read-start : n ≤ length before → Reading 0 0 before
+  unfolding read
+  read-start h =
+      let e : n - 0 ≡ n = omega arith in
+      record { within = omega arith; room = h; place = omega arith; filling = rw e (fill-start _ before) }
+
+  module _ {j p : ℕ} {o : List B} (h : j < n) (r : Reading j p o) where
+    -- an increment from here is still within n increments
+    pub read-place : p + increment ≤ n * increment
+    read-place = omega (arith, r .place, mul-le-mul-right increment h, add-mul 1 j increment)
+
+    pub read-room : j < length o
+    read-room = omega (arith, r .filling .len, r .room)
+
+    pub read-turn : {y : B} → y ≡ f (p % 65536) (drop (p / 65536) buf) → Reading (j + 1) (p + increment) (set o j y)
+    read-turn {y} e =
+        let s : y ≡ sample j = e ∙ rw (r .place) refl in
+        let t = rw (tabulate-next n j sample h, ← s) at (r .filling) in
+        record {
+          within = omega arith;
+          room = r .room;
+          place = omega (arith, r .place, add-mul j 1 increment);
+          filling = fill-one (read f increment n buf) before t read-room;
+        }
+
+  pub read-end : {j p : ℕ} {o : List B} → n ≤ j → Reading j p o → o ≡ over (read f increment n buf) before
+  read-end {j} h r = fill-end _ before (rw (tabulate-none n j sample h) at (r .filling))
