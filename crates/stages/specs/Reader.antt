@@ -1,9 +1,10 @@
 -- Reading a buffer at fractional positions, and the sums of products that are read there.
 -- Shared by the interpolator, the down filters and, for the sums, the 2/3 decimator. Assumes nothing.
-use Prim.Native.Nat.{ℕ, _-_, _*_, _/_, _%_}
+use Prim.Native.Nat.{ℕ, _+_, _-_, _*_, _/_, _%_, _<_, _≤_}
 use mathlib.Core.List.{List, [], _∷_, _++_, reverse}
 use lib.IntN.{ℤ, _+ℤ_}
 use lib.ListN.{length, drop, getD}
+use Rattle.stages.specs.declared.rates.Rates.{Rates}
 use Rattle.stages.specs.Lists.{tabulate}
 use Rattle.stages.specs.Fixed.{wrapped}
 
@@ -11,6 +12,18 @@ use Rattle.stages.specs.Fixed.{wrapped}
 -- and is f of the fraction there and of the samples from the whole position on
 unfoldable pub read : {B : Type 0} → (ℕ → List ℤ → B) → ℕ → ℕ → List ℤ → List B
 read f increment n buf = tabulate 0 n (λ j. f (j * increment % 65536) (drop (j * increment / 65536) buf))
+
+-- n samples of input are n / in-kHz milliseconds, and each makes out-kHz outputs
+abbrev pub outputs : Rates → ℕ → ℕ
+outputs r n = n / r .inKhz * r .outKhz
+
+-- what a reader asks of its rates, where a millisecond puts num samples into the buffer: the outputs of up to ten of them
+-- begin before the samples end
+pub record Steady (num : ℕ) (r : Rates) : Type 0 where
+  pub some : 0 < r .inKhz
+  pub few : r .inKhz ≤ 48
+  pub small : r .increment < 16777216
+  pub reach : 10 * (r .outKhz * r .increment) < 10 * (num * 65536) + r .increment
 
 -- the row of a fraction
 abbrev pub rowAt : {A : Type 0} → List A → ℕ → ℕ

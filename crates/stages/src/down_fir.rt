@@ -1,15 +1,19 @@
 // The down filters: AR2, and then as many taps as the order for each output.
 // From silk/resampler/down_fir.rs. Meaning: specs/Reader.antt, specs/Stage/DownFir.antt. Unlike the Rust, the words go in
 // and out by value, the table and the order come with the call, and the number of outputs is counted.
+use crate::ar2;
 use crate::fixed;
+use crate::rates::Rates;
 use crate::taps;
+use crate::words;
 
 ghost use mathlib.Core.Path.{_≡_};
 ghost use mathlib.Core.List.{_++_};
 ghost use Prim.Native.Nat.{_+_, _*_, _-_, _/_, _%_, _<_, _≤_};
 ghost use lib.ListN.{length, take, drop};
 ghost use Rattle.stages.specs.Reader.{read as reading};
-ghost use Rattle.stages.specs.Outcome.{over};
+ghost use Rattle.stages.specs.Outcome.{over, Staged};
+ghost use Rattle.stages.specs.Stage.Ar2.{ar2 as filtered, ar2End};
 ghost use Rattle.stages.specs.Stage.DownFir.{Fitting, filterOf, apart, fir};
 
 // Order 18: nine taps of the fraction's row forward, nine of its mirror backward.
@@ -59,4 +63,26 @@ fn read(
         p += increment;
         j += 1;
     }
+}
+
+// The words of a down filter: those of AR2, and the carried ones, of which the first `order` are live.
+pub struct DownWords {
+    pub ar2: [i32; 2],
+    pub fir: [i32; 36],
+}
+
+// How many samples were written, and the words after them.
+pub struct DownPass {
+    pub written: usize,
+    pub words: DownWords,
+}
+
+// Puts the carried words and behind them what AR2 makes of the input to the front of the buffer; returns AR2's words.
+fn fill(buf: &mut [i32], ar2: [i32; 2], carried: &[i32], input: &[i16], cs: &[i16]) -> [i32; 2]
+    requires { ⌜ (length (now carried) + length (now input) ≤ length (now buf)) × (2 ≤ length (now cs)) ⌝ }
+    ensures { λ r. ⌜ Staged (now (carried .entry) ++ filtered (now (cs .entry)) ar2 (now (input .entry))) (ar2End (now (cs .entry)) ar2 (now (input .entry))) (now (buf .entry)) (now (buf .exit)) r ⌝ }
+{
+    let order = carried.len();
+    words::copy(buf, carried);
+    ar2::silk_resampler_private_AR2(ar2, &mut buf[order..], input, cs)
 }

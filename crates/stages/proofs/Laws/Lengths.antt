@@ -11,11 +11,22 @@ use Rattle.stages.specs.Lists.{joined}
 use Rattle.stages.specs.Run.{run, end}
 use Rattle.stages.specs.Rom.{silk-resampler-up2-hq-0, silk-resampler-up2-hq-1}
 use Rattle.stages.specs.Section.{scaled, sectionOut, rowNext}
+use Rattle.stages.specs.Stage.Ar2.{ar2, ar2End, ar2Out, ar2After, ar2Next}
 use Rattle.stages.specs.Stage.Up2Hq.{up2, up2End, up2Out, up2Next}
 use Rattle.stages.specs.Stage.DownFir.{outerSums}
 use Rattle.stages.specs.Stage.Down2.{down2, down2Out, down2Next}
 use Rattle.stages.specs.Stage.AnaFiltBank1.{splitLow, splitHigh, lowOut, highOut, splitNext}
 use Rattle.stages.proofs.Laws.Lists.{run-length, end-keeps, tabulate-length, pairs-length}
+
+-- ---- AR2
+
+pub ar2-length : (A s xs : List ℤ) → length (ar2 A s xs) ≡ length xs
+unfolding ar2
+ar2-length A s xs = run-length ar2Out (ar2Next A) s xs
+
+pub ar2End-length : (A s xs : List ℤ) → length s ≡ 2 → length (ar2End A s xs) ≡ 2
+unfolding ar2End ar2Next ar2After
+ar2End-length A s xs h = end-keeps (ar2Next A) (λ w. length w ≡ 2) (λ w x k. refl) s xs h
 
 -- ---- the doubler
 

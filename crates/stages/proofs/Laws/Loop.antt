@@ -7,7 +7,7 @@ use native.Mathlib.Numerals.{add-one}
 use native.Mathlib.Omega.{arith}
 use borrow.Rule.Slice.PartMut.{midOf, putMid}
 use lib.ListN.{length, take, drop, set, length-drop, drop-of-length-le, length-append, length-set, take-append-drop}
-use lib.Seq.{length-take-le, take-all, take-at, drop-at, take-suc-set, drop-set-lt, drop-drop, append-snoc}
+use lib.Seq.{length-take-le, take-append-seam, drop-append-seam, take-all, take-at, drop-at, take-suc-set, drop-set-lt, drop-drop, append-snoc}
 use Rattle.stages.specs.Lists.{joined}
 use Rattle.stages.specs.Run.{run, end}
 use Rattle.stages.specs.Outcome.{over}
@@ -75,6 +75,29 @@ module _ {A : Type 0} (whole before : List A) where
       let w : take k o ≡ whole = sym (append-nil (take k o)) ∙ f .filled in
       let l : k ≡ length whole = sym (length-take-le k o (f .within)) ∙ ap length w in
       sym (take-append-drop k o) ∙ rw (w, f .same, l) refl
+
+pub over-length : {A : Type 0} (new old : List A) → length new ≤ length old → length (over new old) ≡ length old
+over-length new old h = length-append new _ ∙ omega (arith, length-drop (length new) old)
+
+-- an output whose front is filled already
+pub fill-front : {A : Type 0} (ys rest before : List A) {o : List A} → length ys ≤ length before → o ≡ over ys before
+    → Filling (ys ++ rest) before (length ys) o rest
+fill-front ys rest before h e =
+    let l = over-length ys before h in
+    rw e (record {
+      len = l;
+      within = omega arith;
+      same = drop-append-seam ys (drop (length ys) before);
+      filled = rw (take-append-seam ys (drop (length ys) before)) refl;
+    })
+
+-- b behind a, each put where the other ends
+pub over-behind : {A : Type 0} (a b before : List A) {o zs : List A} → length a + length b ≤ length before → o ≡ over a before
+    → zs ≡ over b (midOf (length a) (length o - length a) o) → putMid (length a) (length o - length a) o zs ≡ over (a ++ b) before
+over-behind a b before {o} {zs} h e d =
+    let f = fill-front a (b ++ []) before (omega arith) e in
+    let w = ap (λ (t : List _). a ++ t) (append-nil b) in
+    fill-end _ before (rw w at (fill-part _ before b f (omega (arith, f .len)) d))
 
 -- ---- a run that carries a state, one store a turn
 

@@ -9,8 +9,10 @@ use lib.ListN.{length, drop, getD}
 use Rattle.stages.specs.Lists.{if_then_else_, tabulate, cut, carriedOn, _!_}
 use Rattle.stages.specs.Fixed.{wrapped, times, narrowed}
 use Rattle.stages.specs.Rom as Rom
-use Rattle.stages.specs.Reader.{read, mirrored, sum}
-use Rattle.stages.specs.Stage.Ar2.{ar2}
+use Rattle.stages.specs.Reader.{read, mirrored, outputs, sum}
+use Rattle.stages.specs.Run.{passOut, passEnd}
+use Rattle.stages.specs.declared.rates.Rates.{Rates}
+use Rattle.stages.specs.Stage.Ar2.{ar2, ar2End}
 
 -- a filter: its order and its table
 pub record Filter : Type 0 where
@@ -75,3 +77,16 @@ downFir f increment n a carried xs = read (fir f) increment n (carried ++ ar2 (f
 
 unfoldable pub downFirCarried : Filter → List ℤ → List ℤ → List ℤ → List ℤ
 downFirCarried f a carried xs = carriedOn (f .order) carried (ar2 (f .coefs) a xs)
+
+-- a batch, and a pass over batches of at most 10 ms; the state is the AR2 words and the carried words
+unfoldable pub downBatch : Filter → Rates → List ℤ × List ℤ → List ℤ → List ℤ
+downBatch f r s xs = downFir f (r .increment) (outputs r (length xs)) (s .0) (s .1) xs
+
+unfoldable pub downNext : Filter → List ℤ × List ℤ → List ℤ → List ℤ × List ℤ
+downNext f s xs = (ar2End (f .coefs) (s .0) xs, downFirCarried f (s .0) (s .1) xs)
+
+unfoldable pub downPass : Filter → Rates → List ℤ × List ℤ → List ℤ → List ℤ
+downPass f r = passOut (downBatch f r) (downNext f) (10 * r .inKhz)
+
+unfoldable pub downEnd : Filter → Rates → List ℤ × List ℤ → List ℤ → List ℤ × List ℤ
+downEnd f r = passEnd (downNext f) (10 * r .inKhz)
