@@ -11,10 +11,11 @@ ghost use mathlib.Core.Path.{_≡_};
 ghost use mathlib.Core.List.{_++_};
 ghost use Prim.Native.Nat.{_+_, _*_, _-_, _/_, _%_, _<_, _≤_};
 ghost use lib.ListN.{length, take, drop};
-ghost use Rattle.stages.specs.Reader.{read as reading};
+ghost use Rattle.stages.specs.Lists.{padded};
+ghost use Rattle.stages.specs.Reader.{read as reading, outputs, Steady};
 ghost use Rattle.stages.specs.Outcome.{over, Staged};
 ghost use Rattle.stages.specs.Stage.Ar2.{ar2 as filtered, ar2End};
-ghost use Rattle.stages.specs.Stage.DownFir.{Fitting, filterOf, apart, fir};
+ghost use Rattle.stages.specs.Stage.DownFir.{Fitting, filterOf, apart, fir, downBatch, downNext};
 
 // Order 18: nine taps of the fraction's row forward, nine of its mirror backward.
 fn apart_of(cs: &[i16], rows: usize, fraction: usize, ys: &[i32]) -> i32
@@ -85,4 +86,49 @@ fn fill(buf: &mut [i32], ar2: [i32; 2], carried: &[i32], input: &[i16], cs: &[i1
     let order = carried.len();
     words::copy(buf, carried);
     ar2::silk_resampler_private_AR2(ar2, &mut buf[order..], input, cs)
+}
+
+// The words that are carried on, with zeros behind them.
+fn kept(from: &[i32]) -> [i32; 36]
+    requires { ⌜ length (now from) ≤ 36 ⌝ }
+    ensures { λ r. ⌜ r ≡ padded 36 (now (from .entry)) ⌝ }
+{
+    let mut fir = [0i32; 36];
+    words::copy(&mut fir, from);
+    fir
+}
+
+// A batch of at most 10 ms, whole milliseconds.
+fn batch(
+    r: Rates,
+    cs: &[i16],
+    order: usize,
+    rows: usize,
+    s: DownWords,
+    out: &mut [i16],
+    input: &[i16],
+) -> DownPass
+    requires { ⌜ Fitting order rows (now cs) × Steady (r .inKhz) r × (length (s .fir) ≡ 36) ⌝ }
+    requires { ⌜ (length (now input) % r .inKhz ≡ 0) × (length (now input) ≤ 10 * r .inKhz) × (outputs r (length (now input)) ≤ length (now out)) ⌝ }
+    ensures { λ q. ⌜ q .written ≡ outputs r (length (now (input .entry))) ⌝ }
+    ensures { λ q. ⌜ Staged (downBatch (filterOf order (now (cs .entry))) r (s .ar2, take order (s .fir)) (now (input .entry))) (downNext (filterOf order (now (cs .entry))) (s .ar2, take order (s .fir)) (now (input .entry))) (now (out .entry)) (now (out .exit)) (q .words .ar2, take order (q .words .fir)) ⌝ }
+    ensures { λ q. ⌜ q .words .fir ≡ padded 36 (take order (q .words .fir)) ⌝ }
+{
+    let n = input.len();
+    let e = order + n;
+    let inKhz = r.inKhz;
+    let ar2 = s.ar2;
+    let fir = s.fir;
+    let mut buf = [0i32; 516];
+    let after = fill(&mut buf, ar2, &fir[..order], input, cs);
+    let written = n / inKhz * r.outKhz;
+    read(r.increment, written, cs, order, rows, &buf[..e], out);
+    let next = kept(&buf[n..e]);
+    DownPass {
+        written,
+        words: DownWords {
+            ar2: after,
+            fir: next,
+        },
+    }
 }

@@ -1,14 +1,14 @@
 -- Laws of the lists of specs/Lists.antt and of the runs of specs/Run.antt. Assumes nothing.
-use mathlib.Core.Path.{_≡_, refl, ap, _∙_}
-use mathlib.Core.List.{List, [], _∷_}
+use mathlib.Core.Path.{_≡_, refl, sym, ap, _∙_}
+use mathlib.Core.List.{List, [], _∷_, _++_}
 use Prim.Native.Nat.{ℕ, zero, suc, _+_, _*_, _-_, _/_, _<_, _≤_}
 use native.Mathlib.Nat.{add-zero, mul-suc, not-suc-le-zero}
 use native.Mathlib.Numerals.{add-one}
 use native.Mathlib.Omega.{arith}
 use lib.IntN.{ℤ, pos}
-use lib.ListN.{length, take, drop, getD, drop-of-length-le, length-drop}
-use lib.Seq.{drop-cons, drop-drop}
-use Rattle.stages.specs.Lists.{tabulate, pieces, cut, pairs, _!_}
+use lib.ListN.{length, take, drop, getD, replicate, length-take, drop-of-length-le, length-drop}
+use lib.Seq.{drop-cons, drop-drop, take-at, drop-at, take-add, length-take-le}
+use Rattle.stages.specs.Lists.{tabulate, pieces, cut, pairs, padded, last, _!_}
 use Rattle.stages.specs.Run.{run, end}
 
 -- one entry, and the others: the turn k of a loop
@@ -53,6 +53,33 @@ module _ {A : Type 0} where
   pub tabulate-none : (n k : ℕ) (f : ℕ → A) → n ≤ k → tabulate k (n - k) f ≡ []
   unfolding tabulate
   tabulate-none n k f h = let e : n - k ≡ 0 = omega arith in rw e refl
+
+-- ---- padding
+
+drop-zeros : (n m : ℕ) → drop n (replicate m (pos 0)) ≡ replicate (m - n) (pos 0)
+drop-zeros zero m = let e : m - 0 ≡ m = omega arith in rw e refl
+drop-zeros (suc n) zero = let e : 0 - suc n ≡ 0 = omega arith in rw e refl
+drop-zeros (suc n) (suc m) = let e : suc m - suc n ≡ m - n = omega arith in drop-zeros n m ∙ rw e refl
+
+-- words that are put in front of m zeros
+pub over-zeros : (m : ℕ) (xs : List ℤ) → xs ++ drop (length xs) (replicate m (pos 0)) ≡ padded m xs
+over-zeros m xs = rw (drop-zeros (length xs) m) refl
+
+-- and taken from there again
+pub take-padded : (m : ℕ) (xs : List ℤ) (k : ℕ) → length xs ≡ k → take k (padded m xs) ≡ xs
+take-padded m xs k e = take-at xs _ k e
+
+-- ---- what a buffer hands on
+
+-- the part from n on of a buffer whose front is `both` are the last k of it
+pub last-part : {A : Type 0} (k n : ℕ) (both buf : List A) → length both ≡ k + n → take (k + n) buf ≡ both
+    → take (k + n - n) (drop n buf) ≡ last k both
+last-part k n both buf l e =
+    let d : k + n - n ≡ k = omega arith in
+    let m : length both - k ≡ n = omega arith in
+    let s : k + n ≡ n + k = omega arith in
+    let size : length (take n buf) ≡ n = length-take-le n buf (omega (arith, ap length e, length-take (k + n) buf)) in
+    rw (d, m) (sym (drop-at (take n buf) (take k (drop n buf)) n size) ∙ ap (drop n) (sym (take-add n k buf) ∙ rw s at e))
 
 -- ---- pieces
 

@@ -79,6 +79,10 @@ module _ {A : Type 0} (whole before : List A) where
 pub over-length : {A : Type 0} (new old : List A) → length new ≤ length old → length (over new old) ≡ length old
 over-length new old h = length-append new _ ∙ omega (arith, length-drop (length new) old)
 
+-- what was put in front stands there
+pub over-front : {A : Type 0} (new old : List A) (k : ℕ) {o : List A} → length new ≡ k → o ≡ over new old → take k o ≡ new
+over-front new old k l e = rw (e, ← l) (take-append-seam new (drop (length new) old))
+
 -- an output whose front is filled already
 pub fill-front : {A : Type 0} (ys rest before : List A) {o : List A} → length ys ≤ length before → o ≡ over ys before
     → Filling (ys ++ rest) before (length ys) o rest

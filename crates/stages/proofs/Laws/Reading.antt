@@ -2,13 +2,14 @@
 use mathlib.Core.Path.{_≡_, refl, _∙_}
 use mathlib.Core.List.{List, _∷_}
 use Prim.Native.Nat.{ℕ, _+_, _*_, _-_, _/_, _%_, _<_, _≤_}
-use native.Mathlib.Nat.{add-mul, mul-le-mul-right}
+use native.Mathlib.Nat.{add-mul, mul-assoc, mul-sub, mul-le-mul-right}
 use native.Mathlib.Omega.{arith}
 use lib.IntN.{ℤ}
 use lib.ListN.{length, drop, set}
 use Rattle.stages.specs.Lists.{tabulate}
 use Rattle.stages.specs.Outcome.{over}
-use Rattle.stages.specs.Reader.{read}
+use Rattle.stages.specs.declared.rates.Rates.{Rates}
+use Rattle.stages.specs.Reader.{read, Steady}
 use Rattle.stages.proofs.Laws.Lists.{tabulate-next, tabulate-none}
 use Rattle.stages.proofs.Laws.Loop.{Filling, fill-start, fill-one, fill-end}
 
@@ -50,3 +51,16 @@ module _ {B : Type 0} (f : ℕ → List ℤ → B) (increment n : ℕ) (buf : Li
 
   pub read-end : {j p : ℕ} {o : List B} → n ≤ j → Reading j p o → o ≡ over (read f increment n buf) before
   read-end {j} h r = fill-end _ before (rw (tabulate-none n j sample h) at (r .filling))
+
+-- the outputs of m milliseconds, at most ten, begin before their samples end
+pub steady-reach : (num : ℕ) (r : Rates) → Steady num r → (m : ℕ) → m ≤ 10
+    → m * r .outKhz * r .increment < 65536 * (m * num) + r .increment
+steady-reach num r s m h =
+    let o = r .outKhz * r .increment in
+    let b = num * 65536 in
+    let x = mul-le-mul-right (o - b) h in
+    let y = mul-sub m o b in
+    let z = mul-sub 10 o b in
+    let v = mul-assoc m (r .outKhz) (r .increment) in
+    let w = mul-assoc m num 65536 in
+    omega (arith, s .reach, s .moves)
