@@ -11,4 +11,5 @@ pub mod Taps
 pub mod Lengths
 pub mod Loop
 pub mod Reading
+pub mod Pass
 pub mod Outcome

@@ -6,16 +6,15 @@ use crate::fixed;
 use crate::rates::Rates;
 use crate::taps;
 use crate::words;
-
 ghost use mathlib.Core.Path.{_≡_};
 ghost use mathlib.Core.List.{_++_};
-ghost use Prim.Native.Nat.{_+_, _*_, _-_, _/_, _%_, _<_, _≤_};
+ghost use Prim.Native.Nat.{_+_, _*_, _-_, _/_, _%_, _<_, _≤_, min};
 ghost use lib.ListN.{length, take, drop};
 ghost use Rattle.stages.specs.Lists.{padded};
 ghost use Rattle.stages.specs.Reader.{read as reading, outputs, Steady};
 ghost use Rattle.stages.specs.Outcome.{over, Staged};
 ghost use Rattle.stages.specs.Stage.Ar2.{ar2 as filtered, ar2End};
-ghost use Rattle.stages.specs.Stage.DownFir.{Fitting, filterOf, apart, fir, downBatch, downNext};
+ghost use Rattle.stages.specs.Stage.DownFir.{Fitting, filterOf, apart, fir, downBatch, downNext, downPass, downEnd};
 
 // Order 18: nine taps of the fraction's row forward, nine of its mirror backward.
 fn apart_of(cs: &[i16], rows: usize, fraction: usize, ys: &[i32]) -> i32
@@ -130,5 +129,51 @@ fn batch(
             ar2: after,
             fir: next,
         },
+    }
+}
+
+// The smaller of two counts.
+fn least(a: usize, b: usize) -> usize
+    ensures { λ r. ⌜ r ≡ min a b ⌝ }
+{
+    if a < b { a } else { b }
+}
+
+// A pass over whole milliseconds, in batches of at most 10: each is the part of the input that starts where the last one
+// ended, and what is left of the output is lent on to it. Of the words given only the live ones are read; of those returned
+// the others are zero.
+pub fn silk_resampler_private_down_FIR(
+    r: Rates,
+    cs: &[i16],
+    order: usize,
+    rows: usize,
+    s: DownWords,
+    out: &mut [i16],
+    input: &[i16],
+) -> DownPass
+    requires { ⌜ Fitting order rows (now cs) × Steady (r .inKhz) r × (length (s .fir) ≡ 36) ⌝ }
+    requires { ⌜ (length (now input) % r .inKhz ≡ 0) × (outputs r (length (now input)) ≤ length (now out)) ⌝ }
+    ensures { λ q. ⌜ q .written ≡ outputs r (length (now (input .entry))) ⌝ }
+    ensures { λ q. ⌜ Staged (downPass (filterOf order (now (cs .entry))) r (s .ar2, take order (s .fir)) (now (input .entry))) (downEnd (filterOf order (now (cs .entry))) r (s .ar2, take order (s .fir)) (now (input .entry))) (now (out .entry)) (now (out .exit)) (q .words .ar2, take order (q .words .fir)) ⌝ }
+    ensures { λ q. ⌜ q .words .fir ≡ padded 36 (take order (q .words .fir)) ⌝ }
+{
+    let size = 10 * r.inKhz;
+    let ar2 = s.ar2;
+    let given = s.fir;
+    let fir = kept(&given[..order]);
+    let mut t = DownWords { ar2, fir };
+    let mut done = 0;
+    let mut at = 0;
+    while at < input.len() {
+        let n = least(input.len() - at, size);
+        let e = at + n;
+        let b = batch(r, cs, order, rows, t, &mut out[done..], &input[at..e]);
+        done += b.written;
+        t = b.words;
+        at = e;
+    }
+    DownPass {
+        written: done,
+        words: t,
     }
 }

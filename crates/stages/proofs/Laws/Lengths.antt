@@ -10,10 +10,12 @@ use lib.Seq.{length-take-le}
 use Rattle.stages.specs.Lists.{joined}
 use Rattle.stages.specs.Run.{run, end}
 use Rattle.stages.specs.Rom.{silk-resampler-up2-hq-0, silk-resampler-up2-hq-1}
+use Rattle.stages.specs.declared.rates.Rates.{Rates}
+use Rattle.stages.specs.Reader.{read, outputs}
 use Rattle.stages.specs.Section.{scaled, sectionOut, rowNext}
 use Rattle.stages.specs.Stage.Ar2.{ar2, ar2End, ar2Out, ar2After, ar2Next}
 use Rattle.stages.specs.Stage.Up2Hq.{up2, up2End, up2Out, up2Next}
-use Rattle.stages.specs.Stage.DownFir.{outerSums}
+use Rattle.stages.specs.Stage.DownFir.{Filter, outerSums, downFir, downBatch}
 use Rattle.stages.specs.Stage.Down2.{down2, down2Out, down2Next}
 use Rattle.stages.specs.Stage.AnaFiltBank1.{splitLow, splitHigh, lowOut, highOut, splitNext}
 use Rattle.stages.proofs.Laws.Lists.{run-length, end-keeps, tabulate-length, pairs-length}
@@ -57,6 +59,10 @@ up2-length w (x ∷ xs) = let e = up2-length (up2Next w x) xs in omega arith
 pub outerSums-length : (order : ℕ) (buf : List ℤ) → length (outerSums order buf) ≡ order / 2
 unfolding outerSums
 outerSums-length order buf = tabulate-length 0 (order / 2) _
+
+pub downBatch-length : (f : Filter) (r : Rates) (s : List ℤ × List ℤ) (xs : List ℤ) → length (downBatch f r s xs) ≡ outputs r (length xs)
+unfolding downBatch downFir read
+downBatch-length f r s xs = tabulate-length 0 (outputs r (length xs)) _
 
 -- ---- the 1/2 decimator and the split
 

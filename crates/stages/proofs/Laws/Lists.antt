@@ -6,7 +6,7 @@ use native.Mathlib.Nat.{add-zero, mul-suc, not-suc-le-zero}
 use native.Mathlib.Numerals.{add-one}
 use native.Mathlib.Omega.{arith}
 use lib.IntN.{ℤ, pos}
-use lib.ListN.{length, take, drop, getD, replicate, length-take, drop-of-length-le, length-drop}
+use lib.ListN.{length, take, drop, getD, replicate, length-replicate, length-append, length-take, drop-of-length-le, length-drop}
 use lib.Seq.{drop-cons, drop-drop, take-at, drop-at, take-add, length-take-le}
 use Rattle.stages.specs.Lists.{tabulate, pieces, cut, pairs, padded, last, _!_}
 use Rattle.stages.specs.Run.{run, end}
@@ -64,6 +64,9 @@ drop-zeros (suc n) (suc m) = let e : suc m - suc n ≡ m - n = omega arith in dr
 -- words that are put in front of m zeros
 pub over-zeros : (m : ℕ) (xs : List ℤ) → xs ++ drop (length xs) (replicate m (pos 0)) ≡ padded m xs
 over-zeros m xs = rw (drop-zeros (length xs) m) refl
+
+pub padded-length : (m : ℕ) (xs : List ℤ) → length xs ≤ m → length (padded m xs) ≡ m
+padded-length m xs h = length-append xs _ ∙ ap (λ (k : ℕ). length xs + k) (length-replicate (m - length xs) (pos 0)) ∙ omega arith
 
 -- and taken from there again
 pub take-padded : (m : ℕ) (xs : List ℤ) (k : ℕ) → length xs ≡ k → take k (padded m xs) ≡ xs

@@ -76,6 +76,10 @@ module _ {A : Type 0} (whole before : List A) where
       let l : k ≡ length whole = sym (length-take-le k o (f .within)) ∙ ap length w in
       sym (take-append-drop k o) ∙ rw (w, f .same, l) refl
 
+  -- and so many were written
+  pub fill-count : {k : ℕ} {o : List A} → Filling k o [] → k ≡ length whole
+  fill-count {k} {o} f = sym (length-take-le k o (f .within)) ∙ ap length (sym (append-nil (take k o)) ∙ f .filled)
+
 pub over-length : {A : Type 0} (new old : List A) → length new ≤ length old → length (over new old) ≡ length old
 over-length new old h = length-append new _ ∙ omega (arith, length-drop (length new) old)
 

@@ -126,8 +126,7 @@ returns c =
     let part = last-part (order s) (n s) (both s) (f .fill .last .0) (both-length s) (front f) in
     let size : length (last (order s) (both s)) ≡ order s = length-drop (length (both s) - order s) (both s) ∙ omega (arith, both-length s) in
     let words : c .kept .result ≡ padded 36 (last (order s) (both s)) = c .kept .ensures ∙ ap (padded 36) part in
-    let live : take (order s) (c .kept .result) ≡ last (order s) (both s) = rw words (take-padded 36 _ (order s) size) in
-    (
+    let live : take (order s) (c .kept .result) ≡ last (order s) (both s) = rw words (take-padded 36 _ (order s) size) in (
       refl,
       (
         record {

@@ -1,0 +1,149 @@
+-- A loop over batches of at most n, each a part of the input, that lends on what is left of the output: its invariant, its
+-- turn, its end; and how many samples such a pass puts out. Assumes nothing.
+use mathlib.Core.Path.{_≡_, refl, sym, _∙_, ap}
+use mathlib.Core.Bool.{Bool, true, false}
+use mathlib.Core.List.{List, [], _∷_, _++_}
+use Prim.Native.Nat.{ℕ, zero, suc, _+_, _*_, _-_, _/_, _%_, _<_, _≤_, min}
+use native.Mathlib.Nat.{add-mul, mul-sub, mul-comm, mul-div-cancel, mul-le-mul-right, mul-mod-left, zero-mod, div-add-mod'}
+use native.Mathlib.Omega.{arith}
+use borrow.Author.Tests.{leb-true, leb-false}
+use borrow.Rule.Slice.PartMut.{midOf, putMid}
+use lib.Dec.{leb}
+use lib.IntN.{ℤ}
+use lib.ListN.{length, take, drop, length-append, length-take, length-drop, drop-of-length-le}
+use lib.Seq.{take-all, take-length, drop-length, drop-drop}
+use Rattle.stages.specs.declared.rates.Rates.{Rates}
+use Rattle.stages.specs.Lists.{joined, pieces, cut}
+use Rattle.stages.specs.Run.{run, end, passOut, passEnd}
+use Rattle.stages.specs.Outcome.{over}
+use Rattle.stages.specs.Reader.{outputs}
+use Rattle.stages.proofs.Laws.Lists.{cut-nil, cut-next}
+use Rattle.stages.proofs.Laws.Loop.{Filling, fill-start, fill-part, fill-room, fill-end, fill-count}
+
+-- ---- a turn
+
+-- at most n, where fewer may be left
+module _ {A : Type 0} (n : ℕ) (ys : List A) where
+  fewest : (b : Bool) → leb n (length ys) ≡ b → (take n ys ≡ take (min (length ys) n) ys) × (drop n ys ≡ drop (min (length ys) n) ys)
+  fewest true e = let h = leb-true n (length ys) e in let m : min (length ys) n ≡ n = omega arith in rw m (refl, refl)
+  fewest false e =
+      let h = leb-false n (length ys) e in
+      let m : min (length ys) n ≡ length ys = omega arith in
+      rw m (take-all n ys (omega arith) ∙ sym (take-length ys), drop-of-length-le ys {i = n} (omega arith) ∙ sym (drop-length ys))
+
+-- the pieces from a place on: one of at most n, and those behind it
+cut-here : {A : Type 0} (n at : ℕ) (xs : List A) → 0 < n → at < length xs
+    → cut n (drop at xs) ≡ take (min (length xs - at) n) (drop at xs) ∷ cut n (drop (at + min (length xs - at) n) xs)
+cut-here n at xs p h =
+    let l = length-drop at xs in
+    let (t, d) = fewest n (drop at xs) (leb n (length (drop at xs))) refl in
+    cut-next n (drop at xs) p (omega arith) ∙ rw (← l, ← drop-drop (min (length (drop at xs)) n) at xs, ← t, ← d) refl
+
+module _ {S A B : Type 0} (out : S → List A → List B) (next : S → List A → S) (n : ℕ) (xs : List A) (before : List B) (s₀ : S) where
+  -- the input is read up to `at`, the output is written up to `done`, and the state is s
+  pub record Passing (at done : ℕ) (o : List B) (s : S) : Type 0 where
+    pub within : at ≤ length xs
+    pub room : length (passOut out next n s₀ xs) ≤ length before
+    pub filling : Filling (passOut out next n s₀ xs) before done o (joined (run out next s (cut n (drop at xs))))
+    pub state : end next s (cut n (drop at xs)) ≡ passEnd next n s₀ xs
+
+  pub pass-start : length (passOut out next n s₀ xs) ≤ length before → Passing 0 0 before s₀
+  unfolding passOut passEnd
+  pass-start h = record { within = omega arith; room = h; filling = fill-start _ before; state = refl }
+
+  module _ {at done : ℕ} {o : List B} {s : S} (p : 0 < n) (h : at < length xs) (f : Passing at done o s) where
+    -- the part of the input that is the next batch
+    abbrev part : List A
+    part = take (min (length xs - at) n) (drop at xs)
+
+    abbrev rest : List B
+    rest = joined (run out next (next s part) (cut n (drop (at + min (length xs - at) n) xs)))
+
+    turn : Filling (passOut out next n s₀ xs) before done o (out s part ++ rest)
+    unfolding run joined
+    turn = rw (cut-here n at xs p h) at (f .filling)
+
+    -- what it puts out has room
+    pub pass-room : done + length (out s part) ≤ length o
+    pass-room = let r = fill-room _ before (out s part ++ rest) turn (f .room) in omega (arith, length-append (out s part) rest)
+
+    pub pass-turn : {zs : List B} {s' : S} → zs ≡ over (out s part) (midOf done (length o - done) o) → s' ≡ next s part
+        → Passing (at + min (length xs - at) n) (done + length (out s part)) (putMid done (length o - done) o zs) s'
+    unfolding end
+    pass-turn e d = rw d (record {
+      within = omega arith;
+      room = f .room;
+      filling = fill-part _ before (out s part) turn pass-room e;
+      state = rw (cut-here n at xs p h) at (f .state);
+    })
+
+  pub pass-end : {at done : ℕ} {o : List B} {s : S} → length xs ≤ at → Passing at done o s
+      → (o ≡ over (passOut out next n s₀ xs) before) × (s ≡ passEnd next n s₀ xs) × (done ≡ length (passOut out next n s₀ xs))
+  unfolding run joined end
+  pass-end {at} h f =
+      let e = drop-of-length-le xs {i = at} h in
+      let none = rw (e, cut-nil n) at (f .filling) in
+      (fill-end _ before none, rw (e, cut-nil n) at (f .state), fill-count _ before none)
+
+-- ---- whole milliseconds, k samples each
+
+-- of m of them, a batch takes t, at most ten
+abbrev Taken : ℕ → ℕ → ℕ → Type 0
+Taken m k t = (t ≤ m) × (t ≤ 10) × (min (10 * k) (m * k) ≡ t * k) × (m * k - 10 * k ≡ (m - t) * k)
+
+taken : (m k : ℕ) → (t : ℕ) × Taken m k t
+taken m k = go (leb m 10) refl
+  where
+    go : (b : Bool) → leb m 10 ≡ b → (t : ℕ) × Taken m k t
+    go true e =
+        let s = leb-true m 10 e in
+        let c = mul-le-mul-right k s in
+        let z : m - m ≡ 0 = omega arith in
+        (m, (omega arith, s, omega arith, rw z (omega arith)))
+    go false e =
+        let s = leb-false m 10 e in
+        let c : 10 * k ≤ m * k = mul-le-mul-right k (omega arith) in
+        (10, (omega arith, omega arith, omega arith, rw (mul-comm (m - 10) k, mul-sub k m 10, mul-comm k m, mul-comm k 10)))
+
+-- a batch and what it leaves are whole milliseconds again
+pub batch-whole : (k left : ℕ) → left % k ≡ 0 → (min left (10 * k) % k ≡ 0) × ((left - min left (10 * k)) % k ≡ 0)
+batch-whole k left h =
+    let m = left / k in
+    let e : left ≡ m * k = omega (arith, div-add-mod' left k) in
+    let (t, (a, b, c, d)) = taken m k in
+    let f : min left (10 * k) ≡ t * k = omega arith in
+    let g : left - min left (10 * k) ≡ (m - t) * k = omega arith in
+    (rw f (mul-mod-left t k), rw g (mul-mod-left (m - t) k))
+
+module _ (r : Rates) (p : 0 < r .inKhz) where
+  none : (m : ℕ) → m * r .inKhz ≡ 0 → m * r .outKhz ≡ 0
+  none zero e = omega arith
+  none (suc m) e = absurd (omega (arith, add-mul 1 m (r .inKhz)))
+
+  outputs-whole : (n m : ℕ) → n ≡ m * r .inKhz → outputs r n ≡ m * r .outKhz
+  outputs-whole n m e = rw e (ap (λ (k : ℕ). k * r .outKhz) (mul-div-cancel m p))
+
+  module _ {S : Type 0} (out : S → List ℤ → List ℤ) (next : S → List ℤ → S) (each : (s : S) (xs : List ℤ) → length (out s xs) ≡ outputs r (length xs)) where
+    pieces-length : (fuel : ℕ) (s : S) (xs : List ℤ) (m : ℕ) → length xs ≡ m * r .inKhz → length xs ≤ fuel
+        → length (joined (run out next s (pieces fuel (10 * r .inKhz) xs))) ≡ m * r .outKhz
+    unfolding pieces run joined
+    pieces-length zero s xs m h l = sym (none m (omega arith))
+    pieces-length (suc fuel) s [] m h l = sym (none m (sym h))
+    pieces-length (suc fuel) s (x ∷ xs) m h l =
+        let k = r .inKhz in
+        let ys : List ℤ = x ∷ xs in
+        let a = take (10 * k) ys in
+        let b = drop (10 * k) ys in
+        let (t, (t≤m, t≤10, ta, tb)) = taken m k in
+        let e : t + (m - t) ≡ m = omega arith in
+        let first = each s a ∙ outputs-whole (length a) t (length-take (10 * k) ys ∙ ap (λ (n : ℕ). min (10 * k) n) h ∙ ta) in
+        let rest = pieces-length fuel (next s a) b (m - t) (length-drop (10 * k) ys ∙ ap (λ (n : ℕ). n - 10 * k) h ∙ tb) (omega (arith, length-drop (10 * k) ys)) in
+        length-append (out s a) _ ∙ omega (arith, rw e at (add-mul t (m - t) (r .outKhz)))
+
+    -- a pass over whole milliseconds puts out as many samples as they make
+    pub pass-length : (s : S) (xs : List ℤ) → length xs % r .inKhz ≡ 0 → length (passOut out next (10 * r .inKhz) s xs) ≡ outputs r (length xs)
+    unfolding passOut cut
+    pass-length s xs h =
+        let m = length xs / r .inKhz in
+        let e : length xs ≡ m * r .inKhz = omega (arith, div-add-mod' (length xs) (r .inKhz)) in
+        pieces-length (length xs) s xs m e (omega arith)
