@@ -3,12 +3,13 @@
 // and out by value, the table and the order come with the call, and the number of outputs is counted.
 use crate::ar2;
 use crate::fixed;
+use crate::rates;
 use crate::rates::Rates;
 use crate::taps;
 use crate::words;
 ghost use mathlib.Core.Path.{_≡_};
 ghost use mathlib.Core.List.{_++_};
-ghost use Prim.Native.Nat.{_+_, _*_, _-_, _/_, _%_, _<_, _≤_, min};
+ghost use Prim.Native.Nat.{_+_, _*_, _-_, _/_, _%_, _<_, _≤_};
 ghost use lib.ListN.{length, take, drop};
 ghost use Rattle.stages.specs.Lists.{padded};
 ghost use Rattle.stages.specs.Reader.{read as reading, outputs, Steady};
@@ -132,13 +133,6 @@ fn batch(
     }
 }
 
-// The smaller of two counts.
-fn least(a: usize, b: usize) -> usize
-    ensures { λ r. ⌜ r ≡ min a b ⌝ }
-{
-    if a < b { a } else { b }
-}
-
 // A pass over whole milliseconds, in batches of at most 10: each is the part of the input that starts where the last one
 // ended, and what is left of the output is lent on to it. Of the words given only the live ones are read; of those returned
 // the others are zero.
@@ -165,7 +159,7 @@ pub fn silk_resampler_private_down_FIR(
     let mut done = 0;
     let mut at = 0;
     while at < input.len() {
-        let n = least(input.len() - at, size);
+        let n = rates::least(input.len() - at, size);
         let e = at + n;
         let b = batch(r, cs, order, rows, t, &mut out[done..], &input[at..e]);
         done += b.written;

@@ -7,6 +7,7 @@ mod answer;
 mod ar2;
 mod down2;
 mod down_fir;
+mod iir_fir;
 pub mod fixed;
 mod rates;
 pub mod rom;

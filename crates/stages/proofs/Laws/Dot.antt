@@ -47,6 +47,18 @@ module _ (product : ℤ → ℤ → ℤ) where
         ≡ third s (cs ! (c + 2)) (ys ! at) (cs ! (c + 1)) (ys ! (at + 1)) (cs ! c) (ys ! (at + 2))
     sum-three-back = rw (take-three cs c h) (front-three s _ _ _ ys at l)
 
+  -- four, written out
+  pub sum-four : (s a b c d : ℤ) (ys : List ℤ) (at : ℕ) → at + 4 ≤ length ys
+      → sum product s (a ∷ b ∷ c ∷ d ∷ []) (drop at ys)
+      ≡ wrapped (third s a (ys ! at) b (ys ! (at + 1)) c (ys ! (at + 2)) +ℤ product d (ys ! (at + 3)))
+  unfolding sum
+  sum-four s a b c d ys at h =
+      let e : at + 3 ≡ suc (suc (suc at)) = omega arith in
+      let f = drop-cons ys (suc (suc (suc at))) (pos 0) (omega arith) in
+      let g : at + 1 ≡ suc at = omega arith in
+      let k : at + 2 ≡ suc (suc at) = omega arith in
+      rw (drop-cons ys at (pos 0) (omega arith), drop-cons ys (suc at) (pos 0) (omega arith), drop-cons ys (suc (suc at)) (pos 0) (omega arith), f, e, g, k)
+
   -- a group of m more, behind the first n: forward, and backward
   module _ (s : ℤ) (cs ys : List ℤ) (c at n m : ℕ) (h : c + n ≤ length cs) (l : at + n ≤ length ys) where
     pub sum-more : sum product (sum product s (take n (drop c cs)) (drop at ys)) (take m (drop (c + n) cs)) (drop (at + n) ys)

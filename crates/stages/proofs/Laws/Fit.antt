@@ -1,7 +1,7 @@
 -- Signed ranges, and reading a signed value back: what is stored, passed or returned at width w stands in a proof as
 -- `toZ w (ofZ w x)`, which is x where x fits. Assumes nothing.
 use mathlib.Core.Path.{_≡_, sym, _∙_, subst}
-use Prim.Native.Nat.{ℕ, _+_, _^_, _<_, _≤_}
+use Prim.Native.Nat.{ℕ, _+_, _*_, _^_, _<_, _≤_}
 use native.Mathlib.Omega.{arith}
 use native.Mathlib.Nat as NatL
 use mathlib.Core.Bool.{true}
@@ -80,22 +80,33 @@ scale-fits m {x} h f =
     let v = NatL.mul-le-mul {n₁ = m} {m₁ = N x} {n₂ = 65536} {m₂ = 32768} h (omega arith) in
     in-range w32 (pos m *ℤ x) (omega arith) (omega arith)
 
+-- the size of a number that fits
+abs-fits : (w : Width) (z : ℤ) → SFits w z → P z + N z ≤ 2 ^ hbits w
+unfolding P N
+abs-fits w (pos n) h = omega (arith, h .sfits)
+abs-fits w (negsuc n) h = omega (arith, h .sfits)
+
+-- the product of two samples fits a word
+pub mul16-fits : (x y : ℤ) → SFits w16 x → SFits w16 y → SFits w32 (x *ℤ y)
+mul16-fits x y f g =
+    let a = fits-pn w16 x f in
+    let b = fits-pn w16 y g in
+    let p = p-mul x y in
+    let n = n-mul x y in
+    let u = NatL.mul-le-mul {n₁ = P x + N x} {m₁ = P y + N y} {n₂ = 32768} {m₂ = 32768} (abs-fits w16 x f) (abs-fits w16 y g) in
+    in-range w32 (x *ℤ y) (omega arith) (omega arith)
+
 -- ---- products with a coefficient
 
 -- |c| < 65536 and y a word: |c y| ≤ 65535 × 2^31
 mul-bound : (c y : ℤ) → natAbs c < 65536 → SFits w32 y → P (c *ℤ y) + N (c *ℤ y) ≤ 140735340871680
-unfolding P N
 mul-bound c y h f =
     omega (
       arith,
       p-mul c y,
       n-mul c y,
-      NatL.mul-le-mul {n₁ = P c + N c} {m₁ = P y + N y} {n₂ = 65535} {m₂ = 2147483648} (omega (arith, pn-abs c)) (abs32 y f),
+      NatL.mul-le-mul {n₁ = P c + N c} {m₁ = P y + N y} {n₂ = 65535} {m₂ = 2147483648} (omega (arith, pn-abs c)) (abs-fits w32 y f),
     )
-  where
-    abs32 : (z : ℤ) → SFits w32 z → P z + N z ≤ 2147483648
-    abs32 (pos n) g = omega (arith, g .sfits)
-    abs32 (negsuc n) g = omega (arith, g .sfits)
 
 pub mul-fits : (c y : ℤ) → natAbs c < 65536 → SFits w32 y → SFits w64 (c *ℤ y)
 mul-fits c y h f = let b = mul-bound c y h f in in-range w64 (c *ℤ y) (omega arith) (omega arith)

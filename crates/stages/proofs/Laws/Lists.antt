@@ -1,5 +1,6 @@
 -- Laws of the lists of specs/Lists.antt and of the runs of specs/Run.antt. Assumes nothing.
 use mathlib.Core.Path.{_≡_, refl, sym, ap, _∙_}
+use mathlib.Core.Bool.{Bool, true, false, _&&_}
 use mathlib.Core.List.{List, [], _∷_, _++_}
 use Prim.Native.Nat.{ℕ, zero, suc, _+_, _*_, _-_, _/_, _<_, _≤_}
 use native.Mathlib.Nat.{add-zero, mul-suc, not-suc-le-zero}
@@ -10,6 +11,11 @@ use lib.ListN.{length, take, drop, getD, replicate, length-replicate, length-app
 use lib.Seq.{drop-cons, drop-drop, take-at, drop-at, take-add, length-take-le}
 use Rattle.stages.specs.Lists.{tabulate, pieces, cut, pairs, padded, last, _!_}
 use Rattle.stages.specs.Run.{run, end}
+
+-- both of two tests
+pub both-true : (a b : Bool) → (a && b) ≡ true → (a ≡ true) × (b ≡ true)
+both-true true b h = (refl, h)
+both-true false b h = let z : _≡_ {A = ℕ} 0 1 = cc in absurd (omega arith)
 
 -- one entry, and the others: the turn k of a loop
 pub drop-next : {A : Type 0} (xs : List A) (k : ℕ) (d : A) → k < length xs → drop k xs ≡ getD xs k d ∷ drop (k + 1) xs
@@ -25,6 +31,14 @@ take-three xs at h =
     let e : at + 1 ≡ suc at = omega arith in
     let f : at + 2 ≡ suc (suc at) = omega arith in
     rw (drop-cons xs at (pos 0) (omega arith), drop-cons xs (suc at) (pos 0) (omega arith), drop-cons xs (suc (suc at)) (pos 0) (omega arith), e, f)
+
+pub all-four : (xs : List ℤ) → length xs ≡ 4 → xs ≡ xs ! 0 ∷ xs ! 1 ∷ xs ! 2 ∷ xs ! 3 ∷ []
+all-four [] h = absurd (omega arith)
+all-four (a ∷ []) h = absurd (omega arith)
+all-four (a ∷ b ∷ []) h = absurd (omega arith)
+all-four (a ∷ b ∷ c ∷ []) h = absurd (omega arith)
+all-four (a ∷ b ∷ c ∷ d ∷ []) h = refl
+all-four (a ∷ b ∷ c ∷ d ∷ e ∷ xs) h = absurd (omega arith)
 
 -- ---- tables
 

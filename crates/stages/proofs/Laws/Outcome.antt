@@ -1,7 +1,7 @@
 -- Outcomes: what a row leads to, what the shared rows show where none applies, and an output that is filled to its end.
 -- Assumes nothing.
 use mathlib.Core.Path.{_≡_, refl, ap, sym, _∙_}
-use mathlib.Core.Bool.{Bool, true, false, not, _&&_}
+use mathlib.Core.Bool.{Bool, true, false, not}
 use mathlib.Core.List.{List, append-nil}
 use Prim.Native.Nat.{ℕ, _%_}
 use native.Mathlib.Omega.{arith}
@@ -32,11 +32,6 @@ half-fits n half h = last (not (eqb (n % 2) 0)) (ltb mostSamples n) half h
     last false true c e = absurd (omega arith)
     last false false true e = refl
     last false false false e = absurd (omega arith)
-
--- both of two tests
-pub both-true : (a b : Bool) → (a && b) ≡ true → (a ≡ true) × (b ≡ true)
-both-true true b h = (refl, h)
-both-true false b h = let z : _≡_ {A = ℕ} 0 1 = cc in absurd (omega arith)
 
 -- what fills an output to its end leaves nothing of it
 pub over-full : {A : Type 0} (new old : List A) → length old ≡ length new → over new old ≡ new
