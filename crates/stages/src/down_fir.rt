@@ -10,7 +10,7 @@ use crate::words;
 ghost use mathlib.Core.Path.{_≡_};
 ghost use mathlib.Core.List.{_++_};
 ghost use Prim.Native.Nat.{_+_, _*_, _-_, _/_, _%_, _<_, _≤_};
-ghost use lib.ListN.{length, take, drop};
+ghost use lib.ListN.{length, take};
 ghost use Rattle.stages.specs.Lists.{padded};
 ghost use Rattle.stages.specs.Reader.{read as reading, outputs, Steady};
 ghost use Rattle.stages.specs.Outcome.{over, Staged};

@@ -1,14 +1,14 @@
 // The stages of the SILK resampler, with the two decimators and the two-band split: samples and carried words in, samples
-// and carried words out, no rates and no records. Each file has the name of the Rust's; `allpass`, `answer` and `fixed` are
-// ours.
+// and carried words out, no rates and no records. Each file has the name of the Rust's; `allpass`, `answer`, `fixed`,
+// `rates`, `taps` and `words` are ours.
 mod allpass;
 mod ana_filt_bank_1;
 mod answer;
 mod ar2;
 mod down2;
 mod down_fir;
-mod iir_fir;
 pub mod fixed;
+mod iir_fir;
 mod rates;
 pub mod rom;
 mod taps;
@@ -19,7 +19,13 @@ pub use ana_filt_bank_1::Split;
 pub use ana_filt_bank_1::silk_ana_filt_bank_1;
 pub use answer::Answer;
 pub use ar2::silk_resampler_private_AR2;
+pub use down_fir::DownPass;
+pub use down_fir::DownWords;
+pub use down_fir::silk_resampler_private_down_FIR;
 pub use down2::Halved;
 pub use down2::silk_resampler_down2;
+pub use iir_fir::IirFirPass;
+pub use iir_fir::IirFirWords;
+pub use iir_fir::silk_resampler_private_IIR_FIR;
 pub use rates::Rates;
 pub use up2_hq::silk_resampler_private_up2_HQ;

@@ -1,7 +1,7 @@
 -- Signed ranges, and reading a signed value back: what is stored, passed or returned at width w stands in a proof as
 -- `toZ w (ofZ w x)`, which is x where x fits. Assumes nothing.
 use mathlib.Core.Path.{_≡_, sym, _∙_, subst}
-use Prim.Native.Nat.{ℕ, _+_, _*_, _^_, _<_, _≤_}
+use Prim.Native.Nat.{ℕ, _+_, _^_, _<_, _≤_}
 use native.Mathlib.Omega.{arith}
 use native.Mathlib.Nat as NatL
 use mathlib.Core.Bool.{true}

@@ -1,14 +1,14 @@
 -- How many samples each stage puts out, and how many words it carries on. Assumes nothing.
 use mathlib.Core.Path.{_≡_, refl, _∙_, ap}
 use mathlib.Core.List.{List, [], _∷_, _++_}
-use Prim.Native.Nat.{ℕ, suc, _+_, _*_, _/_, _≤_}
+use Prim.Native.Nat.{ℕ, suc, _*_, _/_, _≤_, _-_}
 use native.Mathlib.Nat.{not-suc-le-zero, le-of-suc-le-suc}
 use native.Mathlib.Omega.{arith}
 use lib.IntN.{ℤ}
 use lib.ListN.{length, take, drop, length-append, length-drop}
 use lib.Seq.{length-take-le}
 use Rattle.stages.specs.Lists.{joined}
-use Rattle.stages.specs.Run.{run, end}
+use Rattle.stages.specs.Run.{run}
 use Rattle.stages.specs.Rom.{silk-resampler-up2-hq-0, silk-resampler-up2-hq-1}
 use Rattle.stages.specs.declared.rates.Rates.{Rates}
 use Rattle.stages.specs.Reader.{read, outputs}
@@ -16,6 +16,7 @@ use Rattle.stages.specs.Section.{scaled, sectionOut, rowNext}
 use Rattle.stages.specs.Stage.Ar2.{ar2, ar2End, ar2Out, ar2After, ar2Next}
 use Rattle.stages.specs.Stage.Up2Hq.{up2, up2End, up2Out, up2Next}
 use Rattle.stages.specs.Stage.DownFir.{Filter, outerSums, downFir, downBatch}
+use Rattle.stages.specs.Stage.IirFir.{iirFir, iirFirCarried, iirFirBatch, iirFirNext}
 use Rattle.stages.specs.Stage.Down2.{down2, down2Out, down2Next}
 use Rattle.stages.specs.Stage.AnaFiltBank1.{splitLow, splitHigh, lowOut, highOut, splitNext}
 use Rattle.stages.proofs.Laws.Lists.{run-length, end-keeps, tabulate-length, pairs-length}
@@ -63,6 +64,19 @@ outerSums-length order buf = tabulate-length 0 (order / 2) _
 pub downBatch-length : (f : Filter) (r : Rates) (s : List ℤ × List ℤ) (xs : List ℤ) → length (downBatch f r s xs) ≡ outputs r (length xs)
 unfolding downBatch downFir read
 downBatch-length f r s xs = tabulate-length 0 (outputs r (length xs)) _
+
+-- ---- the interpolator
+
+pub iirFirBatch-length : (r : Rates) (s : List ℤ × List ℤ) (xs : List ℤ) → length (iirFirBatch r s xs) ≡ outputs r (length xs)
+unfolding iirFirBatch iirFir read
+iirFirBatch-length r s xs = tabulate-length 0 (outputs r (length xs)) _
+
+pub iirFirNext-length : (s : List ℤ × List ℤ) (xs : List ℤ) → length (s .0) ≡ 6 → length (s .1) ≡ 8
+    → (length (iirFirNext s xs .0) ≡ 6) × (length (iirFirNext s xs .1) ≡ 8)
+unfolding iirFirNext iirFirCarried
+iirFirNext-length s xs h k =
+    let all = s .1 ++ up2 (s .0) xs in
+    (up2End-length (s .0) xs h, length-drop (length all - 8) all ∙ omega (arith, length-append (s .1) (up2 (s .0) xs)))
 
 -- ---- the 1/2 decimator and the split
 

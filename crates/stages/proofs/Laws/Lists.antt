@@ -8,7 +8,7 @@ use native.Mathlib.Numerals.{add-one}
 use native.Mathlib.Omega.{arith}
 use lib.IntN.{ℤ, pos}
 use lib.ListN.{length, take, drop, getD, replicate, length-replicate, length-append, length-take, drop-of-length-le, length-drop}
-use lib.Seq.{drop-cons, drop-drop, take-at, drop-at, take-add, length-take-le}
+use lib.Seq.{drop-cons, drop-drop, take-all, take-at, drop-at, take-add, length-take-le}
 use Rattle.stages.specs.Lists.{tabulate, pieces, cut, pairs, padded, last, _!_}
 use Rattle.stages.specs.Run.{run, end}
 
@@ -24,6 +24,10 @@ drop-next xs k d h = rw add-one (drop-cons xs k d h)
 -- nothing is left
 pub drop-none : {A : Type 0} (xs : List A) (k : ℕ) → length xs ≤ k → drop k xs ≡ []
 drop-none xs k h = drop-of-length-le xs h
+
+-- the part of a slice from a place to its end
+pub part-rest : {A : Type 0} (xs : List A) (at : ℕ) → take (length xs - at) (drop at xs) ≡ drop at xs
+part-rest xs at = take-all (length xs - at) (drop at xs) (omega (arith, length-drop at xs))
 
 -- three in a row
 pub take-three : (xs : List ℤ) (at : ℕ) → at + 3 ≤ length xs → take 3 (drop at xs) ≡ xs ! at ∷ xs ! (at + 1) ∷ xs ! (at + 2) ∷ []

@@ -1,6 +1,6 @@
 -- Outcomes: what a row leads to, what the shared rows show where none applies, and an output that is filled to its end.
 -- Assumes nothing.
-use mathlib.Core.Path.{_≡_, refl, ap, sym, _∙_}
+use mathlib.Core.Path.{_≡_, refl}
 use mathlib.Core.Bool.{Bool, true, false, not}
 use mathlib.Core.List.{List, append-nil}
 use Prim.Native.Nat.{ℕ, _%_}

@@ -4,7 +4,7 @@ use mathlib.Core.Path.{_≡_, refl, sym, _∙_, ap}
 use mathlib.Core.Bool.{Bool, true, false}
 use mathlib.Core.List.{List, [], _∷_, _++_}
 use Prim.Native.Nat.{ℕ, zero, suc, _+_, _*_, _-_, _/_, _%_, _<_, _≤_, min}
-use native.Mathlib.Nat.{add-mul, mul-sub, mul-comm, mul-div-cancel, mul-le-mul-right, mul-mod-left, zero-mod, div-add-mod'}
+use native.Mathlib.Nat.{add-mul, mul-sub, mul-comm, mul-div-cancel, mul-le-mul-right, mul-mod-left, div-add-mod'}
 use native.Mathlib.Omega.{arith}
 use borrow.Author.Tests.{leb-true, leb-false}
 use borrow.Rule.Slice.PartMut.{midOf, putMid}
@@ -47,7 +47,7 @@ module _ {S A B : Type 0} (out : S → List A → List B) (next : S → List A �
     pub filling : Filling (passOut out next n s₀ xs) before done o (joined (run out next s (cut n (drop at xs))))
     pub state : end next s (cut n (drop at xs)) ≡ passEnd next n s₀ xs
 
-  pub pass-start : length (passOut out next n s₀ xs) ≤ length before → Passing 0 0 before s₀
+  pass-start : length (passOut out next n s₀ xs) ≤ length before → Passing 0 0 before s₀
   unfolding passOut passEnd
   pass-start h = record { within = omega arith; room = h; filling = fill-start _ before; state = refl }
 
@@ -64,10 +64,10 @@ module _ {S A B : Type 0} (out : S → List A → List B) (next : S → List A �
     turn = rw (cut-here n at xs p h) at (f .filling)
 
     -- what it puts out has room
-    pub pass-room : done + length (out s part) ≤ length o
+    pass-room : done + length (out s part) ≤ length o
     pass-room = let r = fill-room _ before (out s part ++ rest) turn (f .room) in omega (arith, length-append (out s part) rest)
 
-    pub pass-turn : {zs : List B} {s' : S} → zs ≡ over (out s part) (midOf done (length o - done) o) → s' ≡ next s part
+    pass-turn : {zs : List B} {s' : S} → zs ≡ over (out s part) (midOf done (length o - done) o) → s' ≡ next s part
         → Passing (at + min (length xs - at) n) (done + length (out s part)) (putMid done (length o - done) o zs) s'
     unfolding end
     pass-turn e d = rw d (record {
@@ -77,7 +77,7 @@ module _ {S A B : Type 0} (out : S → List A → List B) (next : S → List A �
       state = rw (cut-here n at xs p h) at (f .state);
     })
 
-  pub pass-end : {at done : ℕ} {o : List B} {s : S} → length xs ≤ at → Passing at done o s
+  pass-end : {at done : ℕ} {o : List B} {s : S} → length xs ≤ at → Passing at done o s
       → (o ≡ over (passOut out next n s₀ xs) before) × (s ≡ passEnd next n s₀ xs) × (done ≡ length (passOut out next n s₀ xs))
   unfolding run joined end
   pass-end {at} h f =
@@ -106,7 +106,7 @@ taken m k = go (leb m 10) refl
         (10, (omega arith, omega arith, omega arith, rw (mul-comm (m - 10) k, mul-sub k m 10, mul-comm k m, mul-comm k 10)))
 
 -- a batch and what it leaves are whole milliseconds again
-pub batch-whole : (k left : ℕ) → left % k ≡ 0 → (min left (10 * k) % k ≡ 0) × ((left - min left (10 * k)) % k ≡ 0)
+batch-whole : (k left : ℕ) → left % k ≡ 0 → (min left (10 * k) % k ≡ 0) × ((left - min left (10 * k)) % k ≡ 0)
 batch-whole k left h =
     let m = left / k in
     let e : left ≡ m * k = omega (arith, div-add-mod' left k) in
@@ -147,3 +147,57 @@ module _ (r : Rates) (p : 0 < r .inKhz) where
         let m = length xs / r .inKhz in
         let e : length xs ≡ m * r .inKhz = omega (arith, div-add-mod' (length xs) (r .inKhz)) in
         pieces-length (length xs) s xs m e (omega arith)
+
+-- ---- a pass over whole milliseconds, as a stage makes it
+
+-- `at` samples of `xs` are taken, `done` outputs are written into `o`, and what is left is still whole milliseconds
+pub record Milliseconds {S : Type 0} (r : Rates) (out : S → List ℤ → List ℤ) (next : S → List ℤ → S) (xs before : List ℤ) (s₀ : S)
+    (at done : ℕ) (o : List ℤ) (s : S) : Type 0 where
+  pub whole : (length xs - at) % r .inKhz ≡ 0
+  pub passing : Passing out next (10 * r .inKhz) xs before s₀ at done o s
+
+module _ {S : Type 0} (r : Rates) (p : 0 < r .inKhz) (out : S → List ℤ → List ℤ) (next : S → List ℤ → S)
+    (each : (s : S) (xs : List ℤ) → length (out s xs) ≡ outputs r (length xs)) {xs before : List ℤ} {s₀ : S} where
+  pub ms-start : length xs % r .inKhz ≡ 0 → outputs r (length xs) ≤ length before → Milliseconds r out next xs before s₀ 0 0 before s₀
+  ms-start h room =
+      let e : length xs - 0 ≡ length xs = omega arith in
+      record { whole = rw e h; passing = pass-start out next _ xs before s₀ (rw (pass-length r p out next each s₀ xs h) room) }
+
+  -- a turn takes n samples from `at` on
+  module _ {at done : ℕ} {o : List ℤ} {s : S} (n : ℕ) (e : n ≡ min (length xs - at) (10 * r .inKhz)) (h : at < length xs) (f : Milliseconds r out next xs before s₀ at done o s) where
+    abbrev taking : List ℤ
+    taking = take (at + n - at) (drop at xs)
+
+    count : at + n - at ≡ min (length xs - at) (10 * r .inKhz)
+    count = omega arith
+
+    taking-length : length taking ≡ min (length xs - at) (10 * r .inKhz)
+    taking-length = rw count (length-take (min (length xs - at) (10 * r .inKhz)) (drop at xs) ∙ omega (arith, length-drop at xs))
+
+    pub ms-whole : length taking % r .inKhz ≡ 0
+    ms-whole = rw taking-length (batch-whole (r .inKhz) (length xs - at) (f .whole) .0)
+
+    pub ms-few : length taking ≤ 10 * r .inKhz
+    ms-few = omega (arith, taking-length)
+
+    pub ms-room : done + outputs r (length taking) ≤ length o
+    ms-room = rw (← each s taking, count) (pass-room out next _ xs before s₀ (omega arith) h (f .passing))
+
+    pub ms-turn : {zs : List ℤ} {s' : S} {written : ℕ} → written ≡ outputs r (length taking)
+        → zs ≡ over (out s taking) (midOf done (length o - done) o) → s' ≡ next s taking
+        → Milliseconds r out next xs before s₀ (at + n) (done + written) (putMid done (length o - done) o zs) s'
+    ms-turn w d q =
+        let left : length xs - (at + n) ≡ length xs - at - min (length xs - at) (10 * r .inKhz) = omega arith in
+        let made = w ∙ sym (each s taking) ∙ ap (λ (k : ℕ). length (out s (take k (drop at xs)))) count in
+        let z = d ∙ ap (λ (k : ℕ). over (out s (take k (drop at xs))) (midOf done (length o - done) o)) count in
+        let t = q ∙ ap (λ (k : ℕ). next s (take k (drop at xs))) count in
+        record {
+          whole = rw left (batch-whole (r .inKhz) (length xs - at) (f .whole) .1);
+          passing = rw (e, made) (pass-turn out next _ xs before s₀ (omega arith) h (f .passing) z t);
+        }
+
+  pub ms-end : {at done : ℕ} {o : List ℤ} {s : S} → length xs % r .inKhz ≡ 0 → length xs ≤ at → Milliseconds r out next xs before s₀ at done o s
+      → (o ≡ over (passOut out next (10 * r .inKhz) s₀ xs) before) × (s ≡ passEnd next (10 * r .inKhz) s₀ xs) × (done ≡ outputs r (length xs))
+  ms-end w h f =
+      let (a, b, c) = pass-end out next _ xs before s₀ h (f .passing) in
+      (a, b, c ∙ pass-length r p out next each s₀ xs w)

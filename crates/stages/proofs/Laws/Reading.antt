@@ -1,15 +1,15 @@
 -- A loop that reads a buffer at j increments, as specs/Reader.antt says: its invariant, its turn, its end. Assumes nothing.
-use mathlib.Core.Path.{_≡_, refl, _∙_}
-use mathlib.Core.List.{List, _∷_}
+use mathlib.Core.Path.{_≡_, refl, sym, _∙_, ap}
+use mathlib.Core.List.{List}
 use Prim.Native.Nat.{ℕ, _+_, _*_, _-_, _/_, _%_, _<_, _≤_}
-use native.Mathlib.Nat.{add-mul, mul-assoc, mul-sub, mul-le-mul-right}
+use native.Mathlib.Nat.{add-mul, mul-assoc, mul-comm, mul-sub, mul-le-mul-right, le-of-mul-le-mul-right, div-add-mod'}
 use native.Mathlib.Omega.{arith}
 use lib.IntN.{ℤ}
 use lib.ListN.{length, drop, set}
 use Rattle.stages.specs.Lists.{tabulate}
 use Rattle.stages.specs.Outcome.{over}
 use Rattle.stages.specs.declared.rates.Rates.{Rates}
-use Rattle.stages.specs.Reader.{read, Steady}
+use Rattle.stages.specs.Reader.{read, outputs, Steady}
 use Rattle.stages.proofs.Laws.Lists.{tabulate-next, tabulate-none}
 use Rattle.stages.proofs.Laws.Loop.{Filling, fill-start, fill-one, fill-end}
 
@@ -53,7 +53,7 @@ module _ {B : Type 0} (f : ℕ → List ℤ → B) (increment n : ℕ) (buf : Li
   read-end {j} h r = fill-end _ before (rw (tabulate-none n j sample h) at (r .filling))
 
 -- the outputs of m milliseconds, at most ten, begin before their samples end
-pub steady-reach : (num : ℕ) (r : Rates) → Steady num r → (m : ℕ) → m ≤ 10
+steady-reach : (num : ℕ) (r : Rates) → Steady num r → (m : ℕ) → m ≤ 10
     → m * r .outKhz * r .increment < 65536 * (m * num) + r .increment
 steady-reach num r s m h =
     let o = r .outKhz * r .increment in
@@ -64,3 +64,13 @@ steady-reach num r s m h =
     let v = mul-assoc m (r .outKhz) (r .increment) in
     let w = mul-assoc m num 65536 in
     omega (arith, s .reach, s .moves)
+
+-- the same of n samples of input, whole milliseconds, each of which puts d samples into the buffer
+pub whole-reach : (d : ℕ) (r : Rates) (n : ℕ) → Steady (d * r .inKhz) r → n % r .inKhz ≡ 0 → n ≤ 10 * r .inKhz
+    → outputs r n * r .increment < 65536 * (d * n) + r .increment
+whole-reach d r n s h l =
+    let m = n / r .inKhz in
+    let whole : m * r .inKhz ≡ n = omega (arith, div-add-mod' n (r .inKhz)) in
+    let few = le-of-mul-le-mul-right {m = m} {n = 10} (omega arith) (s .some) in
+    let e : m * (d * r .inKhz) ≡ d * n = sym (mul-assoc m d (r .inKhz)) ∙ ap (λ (k : ℕ). k * r .inKhz) (mul-comm m d) ∙ mul-assoc d m (r .inKhz) ∙ ap (λ (k : ℕ). d * k) whole in
+    rw e at (steady-reach (d * r .inKhz) r s m few)

@@ -1,11 +1,10 @@
 -- Three sections in a row, on words that stand anywhere in a list, written out. Assumes nothing.
 use mathlib.Core.Path.{_≡_, refl}
 use mathlib.Core.List.{List, [], _∷_}
-use Prim.Native.Nat.{ℕ, suc, _+_, _≤_}
+use Prim.Native.Nat.{ℕ, _+_, _≤_}
 use native.Mathlib.Omega.{arith}
-use lib.IntN.{ℤ, pos}
+use lib.IntN.{ℤ}
 use lib.ListN.{length, take, drop}
-use lib.Seq.{drop-cons}
 use Rattle.stages.specs.Lists.{_!_}
 use Rattle.stages.proofs.Laws.Lists.{take-three}
 use Rattle.stages.specs.Section.{sectionOut, sectionNext, rowOut, rowNext}

@@ -1,10 +1,10 @@
 -- From the taps that a definition picks out of a filter's rows to those that the code reads from its flat table.
 -- Assumes nothing.
-use mathlib.Core.Path.{_≡_, refl, sym, _∙_, ap}
+use mathlib.Core.Path.{_≡_, refl, _∙_}
 use mathlib.Core.Bool.{Bool, true}
 use mathlib.Core.List.{List, [], _∷_, _++_, reverse}
-use Prim.Native.Nat.{ℕ, zero, suc, _+_, _*_, _-_, _/_, _<_, _≤_}
-use native.Mathlib.Nat.{not-suc-le-zero, le-of-suc-le-suc, mul-lt-mul-of-pos-right, mul-le-mul-left, mul-comm, mul-suc}
+use Prim.Native.Nat.{ℕ, zero, suc, _+_, _*_, _-_, _/_, _<_}
+use native.Mathlib.Nat.{not-suc-le-zero, le-of-suc-le-suc, mul-lt-mul-of-pos-right, mul-le-mul-left, mul-suc}
 use native.Mathlib.Omega.{arith}
 use borrow.Author.Tests.{eqb-true}
 use lib.Dec.{eqb}
@@ -14,7 +14,6 @@ use lib.Seq.{drop-drop}
 use Rattle.stages.specs.Lists.{cut, every}
 use Rattle.stages.specs.Rom.{silk-resampler-frac-FIR-12}
 use Rattle.stages.specs.Reader.{mirrored}
-use Rattle.stages.specs.Stage.DownFir.{Filter, filterOf, rows}
 use Rattle.stages.proofs.Laws.Lists.{both-true, cut-at, cut-count}
 
 -- the row of a fraction is one of the rows

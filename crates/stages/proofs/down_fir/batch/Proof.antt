@@ -3,8 +3,7 @@
 -- Assumes nothing.
 use mathlib.Core.Path.{_≡_, refl, sym, _∙_, ap}
 use mathlib.Core.List.{List, _++_}
-use Prim.Native.Nat.{ℕ, _+_, _*_, _-_, _/_, _<_}
-use native.Mathlib.Nat.{div-add-mod', le-of-mul-le-mul-right}
+use Prim.Native.Nat.{ℕ, _+_, _*_, _-_, _<_}
 use native.Mathlib.Omega.{arith}
 use borrow.Author.Needs.{needs}
 use denote.Ref.{now}
@@ -19,7 +18,7 @@ use Rattle.stages.specs.Stage.DownFir.{filterOf, fir, downBatch, downNex
 use Rattle.stages.proofs.Laws.Lengths.{ar2-length}
 use Rattle.stages.proofs.Laws.Lists.{take-padded, last-part}
 use Rattle.stages.proofs.Laws.Loop.{over-front}
-use Rattle.stages.proofs.Laws.Reading.{steady-reach}
+use Rattle.stages.proofs.Laws.Reading.{whole-reach}
 use Rattle.stages.proofs.down_fir.batch.Statement.{statement}
 use Rattle.stages.proofs.down_fir.batch.Tie as tie
 
@@ -48,10 +47,9 @@ module _ (c : tie.Start) where
   -- the outputs begin before the buffer ends
   reach : outputs (c .args .r) n * c .args .r .increment < 65536 * n + c .args .r .increment
   reach =
-      let r = c .args .r in
-      let whole : n / r .inKhz * r .inKhz ≡ n = omega (arith, div-add-mod' n (r .inKhz), c .pre .1 .0) in
-      let few = le-of-mul-le-mul-right {m = n / r .inKhz} {n = 10} (omega (arith, c .pre .1 .1)) (c .pre .0 .1 .some) in
-      rw whole at (steady-reach (r .inKhz) r (c .pre .0 .1) (n / r .inKhz) few)
+      let one : 1 * c .args .r .inKhz ≡ c .args .r .inKhz = omega arith in
+      let e : 1 * n ≡ n = omega arith in
+      rw e at (whole-reach 1 (c .args .r) n (rw one (c .pre .0 .1)) (c .pre .1 .0) (c .pre .1 .1))
 
 -- the buffer's front
 abbrev start : tie.After-fill → tie.Start

@@ -7,11 +7,11 @@ use native.Mathlib.Nat.{mod-lt}
 use native.Mathlib.Omega.{arith}
 use borrow.Author.Needs.{needs}
 use denote.Ref.{now}
-use lib.ListN.{length, drop, length-take, length-drop}
-use lib.Seq.{take-all}
+use lib.ListN.{length-take, length-drop}
 use mir.Syntax.{w16}
 use Rattle.stages.specs.Stage.DownFir.{filterOf, fir}
 use Rattle.stages.proofs.Laws.Fit.{back}
+use Rattle.stages.proofs.Laws.Lists.{part-rest}
 use Rattle.stages.proofs.Laws.Reading.{Reading, read-start, read-place, read-room, read-turn, read-end}
 use Rattle.stages.proofs.down_fir.read.Statement.{statement}
 use Rattle.stages.proofs.down_fir.read.Tie as tie
@@ -74,11 +74,9 @@ loop-again : tie.Need-loop-again Inv-loop μ-loop
 loop-again c =
     let l = c .before .before .before .loop in
     let a = c .before .before .before .before .args in
-    let at = l .p / 65536 in
-    let rest = take-all (length (now (a .buf)) - at) (drop at (now (a .buf))) (omega (arith, length-drop at (now (a .buf)))) in
     read-turn _ _ _ _ _ (c .before .before .loop-test .taken) (l .inv)
     (back w16 (c .output .result) (c .output .ok) ∙ c .output .ensures
-    ∙ ap (fir (filterOf (a .order) (now (a .cs))) (l .p % 65536)) rest)
+    ∙ ap (fir (filterOf (a .order) (now (a .cs))) (l .p % 65536)) (part-rest (now (a .buf)) (l .p / 65536)))
 
 same-length : tie.Need-same-length Inv-loop μ-loop
 same-length c = c .before .loop .inv .filling .len
