@@ -12,4 +12,5 @@ pub mod Lengths
 pub mod Loop
 pub mod Reading
 pub mod Pass
+pub mod Groups
 pub mod Outcome

@@ -8,19 +8,19 @@ ghost use Rattle.stages.specs.Outcome.{Staged};
 ghost use Rattle.stages.specs.Stage.Ar2.{ar2Out, ar2After, ar2, ar2End};
 
 // The words between two samples.
-struct Words {
-    w: [i32; 2],
+pub struct Words {
+    pub w: [i32; 2],
 }
 
 // The output for one sample.
-fn filtered(s: Words, x: i16) -> i32
+pub fn filtered(s: Words, x: i16) -> i32
     ensures { λ r. ⌜ r ≡ ar2Out (s .w) x ⌝ }
 {
     fixed::add(s.w[0], 256 * (x as i32))
 }
 
 // The words after an output.
-fn moved(s: Words, out32: i32, AQ14: &[i16]) -> Words
+pub fn moved(s: Words, out32: i32, AQ14: &[i16]) -> Words
     requires { ⌜ 2 ≤ length (now AQ14) ⌝ }
     ensures { λ r. ⌜ r .w ≡ ar2After (now (AQ14 .entry)) (s .w) out32 ⌝ }
 {

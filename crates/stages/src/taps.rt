@@ -12,14 +12,14 @@ ghost use Rattle.stages.specs.Reader.{sum};
 ghost use Rattle.stages.specs.Stage.DownFir.{outerSums};
 
 // A product more.
-fn tap(acc: i32, c: i16, y: i32) -> i32
+pub fn tap(acc: i32, c: i16, y: i32) -> i32
     ensures { λ r. ⌜ r ≡ wrapped (acc +ℤ times c y) ⌝ }
 {
     fixed::add(acc, fixed::mul_i16(c, y))
 }
 
 // Three products more.
-fn three(acc: i32, c0: i16, y0: i32, c1: i16, y1: i32, c2: i16, y2: i32) -> i32
+pub fn three(acc: i32, c0: i16, y0: i32, c1: i16, y1: i32, c2: i16, y2: i32) -> i32
     ensures { λ r. ⌜ r ≡ sum times acc (c0 ∷ c1 ∷ c2 ∷ []) (y0 ∷ y1 ∷ y2 ∷ []) ⌝ }
 {
     tap(tap(tap(acc, c0, y0), c1, y1), c2, y2)

@@ -3,15 +3,15 @@
 use mathlib.Core.Path.{_≡_, refl}
 use mathlib.Core.Bool.{Bool, true, false, not}
 use mathlib.Core.List.{List, append-nil}
-use Prim.Native.Nat.{ℕ, _%_}
+use Prim.Native.Nat.{ℕ, _*_, _/_, _%_, _≤_}
 use native.Mathlib.Omega.{arith}
-use borrow.Author.Tests.{eq-eqb, ne-eqb}
+use borrow.Author.Tests.{eq-eqb, ne-eqb, eqb-true, ltb-false}
 use lib.Dec.{ltb, eqb}
 use lib.ListN.{length, drop-of-length-le}
 use Rattle.stages.specs.Lists.{if_then_else_}
 use Rattle.stages.specs.declared.answer.Answer.the-variants.{Refused}
 use Rattle.stages.specs.Outcome.{Outcome, outcome, ruled, over}
-use Rattle.stages.specs.Entry.{halfRow, mostSamples}
+use Rattle.stages.specs.Entry.{halfRow, down23Row, mostSamples}
 
 module _ {S L : Type 0} (s : S) (l : L) (done : Outcome S L) {row r : ℕ} (e : row ≡ r) where
   -- a row applies: the state and what was lent are as they were
@@ -32,6 +32,19 @@ half-fits n half h = last (not (eqb (n % 2) 0)) (ltb mostSamples n) half h
     last false true c e = absurd (omega arith)
     last false false true e = refl
     last false false false e = absurd (omega arith)
+
+-- where none applies to the 2/3 decimator, the samples are whole groups and their outputs have room
+pub third-fits : (n room : ℕ) → down23Row n room ≡ 0 → (n % 3 ≡ 0) × (2 * (n / 3) ≤ room)
+unfolding down23Row
+third-fits n room h =
+    let (whole, few) = last (eqb (n % 3) 0) (ltb mostSamples n) (ltb room (2 * (n / 3))) h in
+    (eqb-true (n % 3) 0 whole, ltb-false room (2 * (n / 3)) few)
+  where
+    last : (a b c : Bool) → _≡_ {A = ℕ} (if not a then 6 else if b then 4 else if c then 5 else 0) 0 → (a ≡ true) × (c ≡ false)
+    last false b c e = absurd (omega arith)
+    last true true c e = absurd (omega arith)
+    last true false true e = absurd (omega arith)
+    last true false false e = (refl, refl)
 
 -- what fills an output to its end leaves nothing of it
 pub over-full : {A : Type 0} (new old : List A) → length old ≡ length new → over new old ≡ new

@@ -1,0 +1,45 @@
+-- `stages::down2_3::four` meets its contract: four products, added up in the definition's order, and narrowed.
+-- Assumes nothing.
+use mathlib.Core.Path.{_∙_, ap}
+use mathlib.Core.List.{[], _∷_}
+use borrow.Author.Needs.{needs}
+use lib.IntN.{pos, _+ℤ_}
+use mir.Syntax.{w16, w32}
+use Rattle.stages.specs.Fixed.{wrapped, times, narrowed}
+use Rattle.stages.specs.Reader.{sum}
+use Rattle.stages.specs.Stage.Down2_3.{tapped}
+use Rattle.stages.proofs.Laws.Fit.{back}
+use Rattle.stages.proofs.down2_3.four.Statement.{statement}
+use Rattle.stages.proofs.down2_3.four.Tie as tie
+
+three-requires : tie.Need-three-requires
+three-requires c κs = search needs
+
+tap-requires : tie.Need-tap-requires
+tap-requires c κs = search needs
+
+narrow-requires : tie.Need-narrow-requires
+narrow-requires c κs = search needs
+
+returns : tie.Need-returns
+unfolding tapped sum
+returns c =
+    let t = c .before in
+    let s = t .before in
+    let start = s .before in
+    let a = start .args in
+    let f = start .fits in
+    let c0 = back w16 (a .c0) (f .c0 .sfits) in
+    let c1 = back w16 (a .c1) (f .c1 .sfits) in
+    let c2 = back w16 (a .c2) (f .c2 .sfits) in
+    let c3 = back w16 (a .c3) (f .c3 .sfits) in
+    let y0 = back w32 (a .y0) (f .y0 .sfits) in
+    let y1 = back w32 (a .y1) (f .y1 .sfits) in
+    let y2 = back w32 (a .y2) (f .y2 .sfits) in
+    let y3 = back w32 (a .y3) (f .y3 .sfits) in
+    let three = back w32 (s .three .result) (s .three .ok) ∙ s .three .ensures ∙ (λ i. sum times (pos 0) (c0 i ∷ c1 i ∷ c2 i ∷ []) (y0 i ∷ y1 i ∷ y2 i ∷ [])) in
+    let all = back w32 (t .tap .result) (t .tap .ok) ∙ t .tap .ensures ∙ (λ i. wrapped (three i +ℤ times (c3 i) (y3 i))) in
+    back w16 (c .narrow .result) (c .narrow .ok) ∙ c .narrow .ensures ∙ ap (narrowed 6) all
+
+pub four-spec : {M : Type 1} → statement M
+four-spec = tie.close (tie.spec three-requires tap-requires narrow-requires returns)
