@@ -8,3 +8,4 @@ pub mod Reader
 pub mod Stage
 pub mod Outcome
 pub mod Entry
+pub mod Claims

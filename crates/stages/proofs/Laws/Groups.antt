@@ -104,7 +104,7 @@ module _ (w : List ℤ) (x y z : ℤ) (rest : List ℤ) (h : length w ≡ 6) whe
   group-end = rw (six w h) (words-end (w ! 0) (w ! 1) (w ! 2) (w ! 3) (w ! 4) (w ! 5) x y z rest)
 
 -- and of no sample nothing comes
-no-group : (w : List ℤ) → length w ≡ 6 → down23End w [] ≡ w
+pub no-group : (w : List ℤ) → length w ≡ 6 → down23End w [] ≡ w
 unfolding down23End ar2 ar2End run end
 no-group w h = rw (six w h) refl
 
