@@ -1,6 +1,6 @@
 -- The claims of specs/Claims.antt. Assumes nothing.
-use mathlib.Core.Path.{_≡_, refl, sym, _∙_, ap}
-use mathlib.Core.List.{List, []}
+use mathlib.Core.Path.{_≡_, refl, sym, _∙_}
+use mathlib.Core.List.{List}
 use mathlib.Core.Bool.{Bool, true, false}
 use Prim.Native.Nat.{ℕ, _*_, _/_}
 use native.Mathlib.Omega.{arith}
@@ -17,7 +17,7 @@ use Rattle.stages.specs.Stage.Down2.{down2, down2End}
 use Rattle.stages.specs.Stage.Down2_3.{down23, down23End}
 use Rattle.stages.specs.Stage.AnaFiltBank1.{splitLow, splitHigh, splitEnd}
 use Rattle.stages.specs.Entry.{halfRow, down23Row, down2Outcome, splitOutcome, down23Outcome}
-use Rattle.stages.specs.Claims.{Fixed, OutcomesFixed, Refuses, Refused-by, RefusalsRefuse, NothingKept, BeyondUntouched}
+use Rattle.stages.specs.Claims.{Fixed, OutcomesFixed, Refused-by, RefusalsRefuse, NothingKept, BeyondUntouched}
 use Rattle.stages.proofs.Laws.Groups.{no-group, down23-length}
 
 -- two that equal the same
@@ -34,12 +34,11 @@ ruled-refuses row s lent done h = rw (ne-eqb row 0 h) (record { numbered = refl;
 
 pub refusals-refuse : RefusalsRefuse
 unfolding RefusalsRefuse down2Outcome splitOutcome down23Outcome
-refusals-refuse w input out high =
-    (
-      ruled-refuses (halfRow (length input) _) w out _,
-      ruled-refuses (halfRow (length input) _) w (out, high) _,
-      ruled-refuses (down23Row (length input) (length out)) w out _,
-    )
+refusals-refuse w input out high = (
+  ruled-refuses (halfRow (length input) _) w out _,
+  ruled-refuses (halfRow (length input) _) w (out, high) _,
+  ruled-refuses (down23Row (length input) (length out)) w out _,
+)
 
 pub nothing-kept : NothingKept
 unfolding NothingKept down2Outcome splitOutcome down23Outcome halfRow down23Row down2 down2End splitLow splitHigh splitEnd down23 tabulate joined pairs run end
