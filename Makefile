@@ -1,5 +1,5 @@
 # What people do here. `make test` is the gate; it needs the Rattle kit (`rt`) and nothing else.
-.PHONY: run test answers
+.PHONY: run test answers compare bench
 
 # Replays the stored answers of the Rust original against the proved code.
 run:
@@ -16,3 +16,11 @@ test:
 answers:
 	@tools/oracle/build
 	@target/oracle/bin/answers crates/replay/data/rust.bin
+
+# Compares the stages, sample by sample, with the Rust original and with libopus. Needs what tools/bench/README.md says.
+compare:
+	@tools/bench/compare
+
+# Measures them beside the two, and prints the table of docs/BENCHMARKS.md.
+bench:
+	@tools/bench/bench
