@@ -1,7 +1,6 @@
 // Replays the stored answers of the Rust original, data/rust.bin, against the proved code, and prints how many there are
 // and how many differ. tools/oracle/README.md describes the file and how it was made.
 use libc::STDOUT_FILENO;
-use stages::fixed;
 ghost use mathlib.Core.Path.{_≡_};
 ghost use Prim.Native.Nat.{_≤_, _<_};
 ghost use lib.ListN.{length};

@@ -2,7 +2,7 @@
 use mathlib.Core.Path.{refl}
 use Rattle.stages.specs.Lists as Lists
 use Rattle.stages.specs.Run as Run
-use Rattle.stages.specs.Fixed as Fixed
+use Rattle.fixed.specs.Fixed as Fixed
 use Rattle.stages.specs.Rom as Rom
 use Rattle.stages.specs.Section as Section
 use Rattle.stages.specs.Reader as Reader

@@ -5,7 +5,8 @@ use mathlib.Core.List.{List, [], _∷_, _++_, flatMap}
 use lib.Dec.{ltb, eqb}
 use lib.IntN.{ℤ, pos, negsuc}
 use lib.ListN.{length, take, drop, getD, replicate}
-use Rattle.stages.specs.Lists.{if_then_else_, tabulate, every}
+use Rattle.fixed.specs.Choice.{if_then_else_}
+use Rattle.stages.specs.Lists.{tabulate, every}
 use Rattle.stages.specs.declared.answer.Answer.the-variants.{Done}
 use Rattle.stages.specs.Outcome.{Outcome, outcome, ruled}
 use Rattle.resampler.specs.declared.Record.{Record}

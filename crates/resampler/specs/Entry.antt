@@ -6,7 +6,7 @@ use mathlib.Core.List.{List}
 use lib.Dec.{ltb, eqb}
 use lib.IntN.{ℤ, pos, negsuc}
 use lib.ListN.{length}
-use Rattle.stages.specs.Lists.{if_then_else_}
+use Rattle.fixed.specs.Choice.{if_then_else_}
 use Rattle.stages.specs.declared.answer.Answer.the-variants.{Done}
 use Rattle.stages.specs.Outcome.{Outcome, outcome, ruled, over}
 use Rattle.resampler.specs.declared.Record.{Record}

@@ -10,7 +10,8 @@ use lib.IntN.{ℤ}
 use lib.ListN.{length, drop}
 use lib.Seq.{drop-append-seam}
 use Rattle.stages.specs.declared.answer.Answer.the-variants.{Done, Refused}
-use Rattle.stages.specs.Lists.{if_then_else_, tabulate, joined, pairs}
+use Rattle.fixed.specs.Choice.{if_then_else_}
+use Rattle.stages.specs.Lists.{tabulate, joined, pairs}
 use Rattle.stages.specs.Run.{run, end}
 use Rattle.stages.specs.Outcome.{Outcome, outcome, ruled, written, over}
 use Rattle.stages.specs.Stage.Down2.{down2, down2End}

@@ -1,9 +1,4 @@
 -- The laws that the proofs cite, each subject in its own file, lower ones first. Other crates cite them too.
-pub mod Integer
-pub mod Ring
-pub mod Wrap
-pub mod Fit
-pub mod Narrow
 pub mod Lists
 pub mod Section
 pub mod Dot

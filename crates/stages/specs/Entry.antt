@@ -6,7 +6,7 @@ use mathlib.Core.List.{List}
 use lib.Dec.{ltb, eqb}
 use lib.IntN.{ℤ}
 use lib.ListN.{length}
-use Rattle.stages.specs.Lists.{if_then_else_}
+use Rattle.fixed.specs.Choice.{if_then_else_}
 use Rattle.stages.specs.Stage.Down2.{down2, down2End}
 use Rattle.stages.specs.Stage.Down2_3.{down23, down23End}
 use Rattle.stages.specs.Stage.AnaFiltBank1.{splitLow, splitHigh, splitEnd}

@@ -1,5 +1,4 @@
 -- What the stages are defined to do, in reading order: words, tables, lists, and then each stage of them.
-pub mod Fixed
 pub mod Rom
 pub mod Lists
 pub mod Run

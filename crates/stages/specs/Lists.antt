@@ -1,15 +1,10 @@
--- Choice, and what the definitions do with lists: tables, pieces, pairs, padding.
+-- What the definitions do with lists: tables, pieces, pairs, padding.
 -- Cited by every other definition. Assumes nothing.
 use mathlib.Core.Bool.{Bool, true, false, _&&_}
 use mathlib.Core.List.{List, [], _∷_, _++_}
 use Prim.Native.Nat.{ℕ, zero, suc, _+_, _-_}
 use lib.ListN.{length, take, drop, getD, replicate}
 use lib.IntN.{ℤ, pos}
-
-infixr 10 if_then_else_
-abbrev pub if_then_else_ : {A : Type 0} → Bool → A → A → A
-if true then a else b = a
-if false then a else b = b
 
 module _ {A : Type 0} where
   -- f i, f (i + 1), and so on: n of them

@@ -6,7 +6,7 @@ use lib.IntN.{ℤ, _+ℤ_}
 use lib.ListN.{length, drop, getD}
 use Rattle.stages.specs.declared.rates.Rates.{Rates}
 use Rattle.stages.specs.Lists.{tabulate}
-use Rattle.stages.specs.Fixed.{wrapped}
+use Rattle.fixed.specs.Fixed.{wrapped}
 
 -- n outputs: output j stands j increments from the start, in 65536ths of a sample,
 -- and is f of the fraction there and of the samples from the whole position on

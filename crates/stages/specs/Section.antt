@@ -3,7 +3,7 @@
 use mathlib.Core.List.{List, [], _∷_}
 use lib.IntN.{ℤ, pos, _+ℤ_, _-ℤ_, _*ℤ_}
 use Rattle.stages.specs.Lists.{_!_}
-use Rattle.stages.specs.Fixed.{wrapped, times}
+use Rattle.fixed.specs.Fixed.{wrapped, times}
 
 -- X, which the output and the new word share
 unfoldable pub sectionX : ℤ → ℤ → ℤ → ℤ

@@ -1,6 +1,5 @@
 // The allpass section, alone and one each on the even and the odd samples of a signal.
 // Meaning: specs/Section.antt. The Rust writes it out in place, in the doubler, the 1/2 decimator and the split.
-use crate::fixed;
 ghost use mathlib.Core.Path.{_≡_};
 ghost use Prim.Native.Nat.{_<_};
 ghost use lib.IntN.{natAbs};

@@ -5,7 +5,6 @@ use crate::allpass;
 use crate::allpass::Words;
 use crate::answer;
 use crate::answer::Answer;
-use crate::fixed;
 use crate::rom;
 ghost use mathlib.Core.Path.{_≡_};
 ghost use Prim.Native.Nat.{_/_, _≤_};

@@ -1,6 +1,5 @@
 // AR2, the two-pole filter before the taps of a down filter.
 // From silk/resampler/ar2.rs. Meaning: specs/Stage/Ar2.antt. Unlike the Rust, the words go in and out by value.
-use crate::fixed;
 ghost use mathlib.Core.Path.{_≡_};
 ghost use Prim.Native.Nat.{_≤_};
 ghost use lib.ListN.{length};

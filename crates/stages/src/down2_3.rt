@@ -4,7 +4,6 @@
 use crate::answer;
 use crate::answer::Answer;
 use crate::ar2;
-use crate::fixed;
 use crate::rom;
 use crate::taps;
 ghost use mathlib.Core.Path.{_≡_};
@@ -12,7 +11,7 @@ ghost use mathlib.Core.List.{[], _∷_};
 ghost use Prim.Native.Nat.{_*_, _/_, _%_, _≤_};
 ghost use lib.ListN.{length};
 ghost use Rattle.stages.specs.Lists.{_!_};
-ghost use Rattle.stages.specs.Fixed.{narrowed};
+ghost use Rattle.fixed.specs.Fixed.{narrowed};
 ghost use Rattle.stages.specs.Rom.{silk-Resampler-2-3-COEFS-LQ};
 ghost use Rattle.stages.specs.Outcome.{Staged, outcome};
 ghost use Rattle.stages.specs.Stage.Ar2.{ar2, ar2End};

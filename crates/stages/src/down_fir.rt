@@ -2,7 +2,6 @@
 // From silk/resampler/down_fir.rs. Meaning: specs/Reader.antt, specs/Stage/DownFir.antt. Unlike the Rust, the words go in
 // and out by value, the table and the order come with the call, and the number of outputs is counted.
 use crate::ar2;
-use crate::fixed;
 use crate::rates;
 use crate::rates::Rates;
 use crate::taps;

@@ -1,7 +1,6 @@
 // The interpolator: the doubler, and then eight taps for each output.
 // From silk/resampler/iir_fir.rs. Meaning: specs/Reader.antt, specs/Stage/IirFir.antt. Unlike the Rust, the words go in and
 // out by value, and the number of outputs is counted.
-use crate::fixed;
 use crate::rates;
 use crate::rates::Rates;
 use crate::rom;
@@ -12,7 +11,7 @@ ghost use mathlib.Core.List.{[], _∷_, _++_, reverse};
 ghost use Prim.Native.Nat.{_+_, _*_, _-_, _/_, _%_, _<_, _≤_};
 ghost use lib.IntN.{_+ℤ_, _*ℤ_};
 ghost use lib.ListN.{length, drop};
-ghost use Rattle.stages.specs.Fixed.{wrapped};
+ghost use Rattle.fixed.specs.Fixed.{wrapped};
 ghost use Rattle.stages.specs.Rom.{silk-resampler-frac-FIR-12};
 ghost use Rattle.stages.specs.Reader.{read as reading, outputs, Steady, sum};
 ghost use Rattle.stages.specs.Outcome.{over, Staged};

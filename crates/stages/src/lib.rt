@@ -1,6 +1,6 @@
 // The stages of the SILK resampler, with the two decimators and the two-band split: samples and carried words in, samples
-// and carried words out, no rates and no records. Each file has the name of the Rust's; `allpass`, `answer`, `fixed`,
-// `rates`, `taps` and `words` are ours.
+// and carried words out, no rates and no records. Each file has the name of the Rust's; `allpass`, `answer`, `rates`,
+// `taps` and `words` are ours; the word arithmetic is the crate `fixed`.
 mod allpass;
 mod ana_filt_bank_1;
 mod answer;
@@ -8,7 +8,6 @@ mod ar2;
 mod down2;
 mod down2_3;
 mod down_fir;
-pub mod fixed;
 mod iir_fir;
 mod rates;
 pub mod rom;

@@ -1,13 +1,12 @@
 // Sums of products of taps and samples, three at a time. Meaning: specs/Reader.antt.
 // The Rust writes out the 18, 12 or 18 products of an output one below the other.
-use crate::fixed;
 ghost use mathlib.Core.Path.{_≡_};
 ghost use mathlib.Core.List.{[], _∷_, reverse};
 ghost use Prim.Native.Nat.{_+_, _<_, _≤_, _/_, _%_};
 ghost use lib.IntN.{pos, _+ℤ_};
 ghost use lib.ListN.{length, take, drop};
 ghost use Rattle.stages.specs.Lists.{_!_};
-ghost use Rattle.stages.specs.Fixed.{wrapped, times};
+ghost use Rattle.fixed.specs.Fixed.{wrapped, times};
 ghost use Rattle.stages.specs.Reader.{sum};
 ghost use Rattle.stages.specs.Stage.DownFir.{outerSums};
 

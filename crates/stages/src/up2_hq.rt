@@ -1,7 +1,6 @@
 // The doubler: two samples for each one, by two chains of three allpass sections.
 // From silk/resampler/up2_hq.rs. Meaning: specs/Stage/Up2Hq.antt. Unlike the Rust, the words go in and out by value.
 use crate::allpass;
-use crate::fixed;
 use crate::rom;
 ghost use mathlib.Core.Path.{_≡_};
 ghost use mathlib.Core.List.{[], _∷_};

@@ -1,7 +1,7 @@
 -- `replay::operation` is safe: an i16 fits an i32.
 -- Assumes nothing.
 use borrow.Author.Needs.{needs}
-use Rattle.stages.proofs.Laws.Fit.{widen16}
+use Rattle.fixed.proofs.Laws.Fit.{widen16}
 use Rattle.replay.proofs.operation.Statement.{statement}
 use Rattle.replay.proofs.operation.Tie as tie
 

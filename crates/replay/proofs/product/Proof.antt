@@ -2,7 +2,7 @@
 -- Assumes nothing.
 use borrow.Author.Needs.{needs}
 use mir.Facts.{toZ-ofZ}
-use Rattle.stages.proofs.Laws.Fit.{coef-between}
+use Rattle.fixed.proofs.Laws.Fit.{coef-between}
 use Rattle.replay.proofs.product.Statement.{statement}
 use Rattle.replay.proofs.product.Tie as tie
 

@@ -8,7 +8,7 @@ use lib.IntN.{ℤ, pos, _+ℤ_}
 use lib.ListN.{length, take, drop, length-drop, length-reverse}
 use lib.Seq.{drop-cons, drop-drop, take-add, length-take-le}
 use Rattle.stages.specs.Lists.{_!_}
-use Rattle.stages.specs.Fixed.{wrapped}
+use Rattle.fixed.specs.Fixed.{wrapped}
 use Rattle.stages.specs.Reader.{sum}
 use Rattle.stages.proofs.Laws.Lists.{take-three}
 

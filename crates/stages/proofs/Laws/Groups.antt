@@ -10,7 +10,7 @@ use lib.Seq.{drop-drop, length-take-le}
 use Rattle.stages.specs.Lists.{tabulate, joined, last, _!_}
 use Rattle.stages.specs.Run.{run, end}
 use Rattle.stages.specs.Outcome.{over}
-use Rattle.stages.specs.Fixed.{narrowed}
+use Rattle.fixed.specs.Fixed.{narrowed}
 use Rattle.stages.specs.Reader.{sum}
 use Rattle.stages.specs.Rom.{silk-Resampler-2-3-COEFS-LQ}
 use Rattle.stages.specs.Stage.Ar2.{ar2, ar2End, ar2Next, ar2After}

@@ -4,7 +4,7 @@ use mathlib.Core.List.{List}
 use lib.IntN.{ℤ, _+ℤ_, _-ℤ_}
 use Rattle.stages.specs.Lists.{pairs}
 use Rattle.stages.specs.Run.{run, end}
-use Rattle.stages.specs.Fixed.{wrapped, narrowed}
+use Rattle.fixed.specs.Fixed.{wrapped, narrowed}
 use Rattle.stages.specs.Rom.{A-fb1-20, A-fb1-21}
 use Rattle.stages.specs.Section.{evenOut, oddOut, halvesNext}
 

@@ -4,7 +4,7 @@ use mathlib.Core.List.{List, [], _∷_}
 use lib.IntN.{ℤ, pos, _+ℤ_, _*ℤ_}
 use Rattle.stages.specs.Lists.{_!_}
 use Rattle.stages.specs.Run.{run, end}
-use Rattle.stages.specs.Fixed.{wrapped, times}
+use Rattle.fixed.specs.Fixed.{wrapped, times}
 
 unfoldable pub ar2Out : List ℤ → ℤ → ℤ
 ar2Out s x = wrapped (s ! 0 +ℤ pos 256 *ℤ x)

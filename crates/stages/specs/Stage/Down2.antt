@@ -4,7 +4,7 @@ use mathlib.Core.List.{List}
 use lib.IntN.{ℤ, _+ℤ_}
 use Rattle.stages.specs.Lists.{pairs}
 use Rattle.stages.specs.Run.{run, end}
-use Rattle.stages.specs.Fixed.{wrapped, narrowed}
+use Rattle.fixed.specs.Fixed.{wrapped, narrowed}
 use Rattle.stages.specs.Rom.{silk-resampler-down2-0, silk-resampler-down2-1}
 use Rattle.stages.specs.Section.{evenOut, oddOut, halvesNext}
 

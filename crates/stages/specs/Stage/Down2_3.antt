@@ -5,7 +5,7 @@ use mathlib.Core.List.{List, [], _∷_, _++_}
 use lib.IntN.{ℤ, pos}
 use lib.ListN.{length, take, drop}
 use Rattle.stages.specs.Lists.{tabulate, joined, carriedOn}
-use Rattle.stages.specs.Fixed.{times, narrowed}
+use Rattle.fixed.specs.Fixed.{times, narrowed}
 use Rattle.stages.specs.Rom.{+_, silk-Resampler-2-3-COEFS-LQ}
 use Rattle.stages.specs.Reader.{sum}
 use Rattle.stages.specs.Stage.Ar2.{ar2, ar2End}

@@ -6,8 +6,9 @@ use mathlib.Core.List.{List, [], _++_}
 use lib.Dec.{ltb}
 use lib.IntN.{ℤ, pos, _+ℤ_}
 use lib.ListN.{length, drop, getD}
-use Rattle.stages.specs.Lists.{if_then_else_, tabulate, cut, carriedOn, _!_}
-use Rattle.stages.specs.Fixed.{wrapped, times, narrowed}
+use Rattle.fixed.specs.Choice.{if_then_else_}
+use Rattle.stages.specs.Lists.{tabulate, cut, carriedOn, _!_}
+use Rattle.fixed.specs.Fixed.{wrapped, times, narrowed}
 use Rattle.stages.specs.Rom as Rom
 use Rattle.stages.specs.Reader.{read, mirrored, outputs, sum}
 use Rattle.stages.specs.Run.{passOut, passEnd}

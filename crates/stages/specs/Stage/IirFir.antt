@@ -5,7 +5,7 @@ use mathlib.Core.List.{List, _++_}
 use lib.IntN.{ℤ, pos, _*ℤ_}
 use lib.ListN.{length}
 use Rattle.stages.specs.Lists.{carriedOn}
-use Rattle.stages.specs.Fixed.{narrowed}
+use Rattle.fixed.specs.Fixed.{narrowed}
 use Rattle.stages.specs.Rom.{silk-resampler-frac-FIR-12}
 use Rattle.stages.specs.Reader.{read, mirrored, outputs, sum}
 use Rattle.stages.specs.Run.{passOut, passEnd}

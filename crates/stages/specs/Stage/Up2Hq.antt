@@ -5,7 +5,7 @@ use lib.IntN.{ℤ}
 use lib.ListN.{take, drop}
 use Rattle.stages.specs.Lists.{joined}
 use Rattle.stages.specs.Run.{run, end}
-use Rattle.stages.specs.Fixed.{narrowed}
+use Rattle.fixed.specs.Fixed.{narrowed}
 use Rattle.stages.specs.Rom.{silk-resampler-up2-hq-0, silk-resampler-up2-hq-1}
 use Rattle.stages.specs.Section.{scaled, rowOut, rowNext}
 

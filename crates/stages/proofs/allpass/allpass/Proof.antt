@@ -3,7 +3,7 @@
 use borrow.Author.Needs.{needs}
 use mir.Syntax.{w32}
 use Rattle.stages.specs.Section.{sectionOut, sectionNext, sectionX}
-use Rattle.stages.proofs.Laws.Fit.{back}
+use Rattle.fixed.proofs.Laws.Fit.{back}
 use Rattle.stages.proofs.allpass.allpass.Statement.{statement}
 use Rattle.stages.proofs.allpass.allpass.Tie as tie
 

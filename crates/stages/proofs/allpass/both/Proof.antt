@@ -4,7 +4,7 @@ use borrow.Author.Needs.{needs}
 use mir.Syntax.{w16, w32}
 use Rattle.stages.specs.Lists.{_!_}
 use Rattle.stages.specs.Section.{evenOut, oddOut, halvesNext}
-use Rattle.stages.proofs.Laws.Fit.{back}
+use Rattle.fixed.proofs.Laws.Fit.{back}
 use Rattle.stages.proofs.allpass.both.Statement.{statement}
 use Rattle.stages.proofs.allpass.both.Tie as tie
 

@@ -5,7 +5,7 @@ use mathlib.Core.Path.{ap}
 use native.Mathlib.Omega.{arith}
 use lib.IntN.{pos, _*ℤ_}
 use mir.Syntax.{w16, w32}
-use Rattle.stages.proofs.Laws.Fit.{cast, rd, fit, widen16, scale-fits}
+use Rattle.fixed.proofs.Laws.Fit.{cast, rd, fit, widen16, scale-fits}
 use Rattle.stages.proofs.allpass.scale.Statement.{statement}
 use Rattle.stages.proofs.allpass.scale.Tie as tie
 

@@ -12,7 +12,7 @@ use lib.ListN.{length, drop}
 use mir.Syntax.{w16}
 use Rattle.stages.specs.Lists.{pairs, _!_}
 use Rattle.stages.specs.Stage.AnaFiltBank1.{lowOut, highOut, splitNext, splitLow, splitHigh, splitEnd}
-use Rattle.stages.proofs.Laws.Fit.{back}
+use Rattle.fixed.proofs.Laws.Fit.{back}
 use Rattle.stages.proofs.Laws.Lists.{pairs-length, pairs-next, pairs-none}
 use Rattle.stages.proofs.Laws.Loop.{Running, run-start, run-room, run-turn, run-end}
 use Rattle.stages.proofs.ana_filt_bank_1.bands.Statement.{statement}

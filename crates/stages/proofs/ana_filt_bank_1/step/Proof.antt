@@ -3,7 +3,7 @@
 use borrow.Author.Needs.{needs}
 use mir.Syntax.{w16, w32}
 use Rattle.stages.specs.Stage.AnaFiltBank1.{lowOut, lowSum, highOut, highSum, splitNext}
-use Rattle.stages.proofs.Laws.Fit.{back}
+use Rattle.fixed.proofs.Laws.Fit.{back}
 use Rattle.stages.proofs.ana_filt_bank_1.step.Statement.{statement}
 use Rattle.stages.proofs.ana_filt_bank_1.step.Tie as tie
 

@@ -6,9 +6,9 @@ use native.Mathlib.Omega.{arith}
 use lib.IntN.{pos, _+ℤ_, _*ℤ_}
 use mir.Syntax.{w16, w32}
 use Rattle.stages.specs.Lists.{_!_}
-use Rattle.stages.specs.Fixed.{wrapped}
+use Rattle.fixed.specs.Fixed.{wrapped}
 use Rattle.stages.specs.Stage.Ar2.{ar2Out}
-use Rattle.stages.proofs.Laws.Fit.{back, cast, rd, fit, widen16, scale-fits}
+use Rattle.fixed.proofs.Laws.Fit.{back, cast, rd, fit, widen16, scale-fits}
 use Rattle.stages.proofs.ar2.filtered.Statement.{statement}
 use Rattle.stages.proofs.ar2.filtered.Tie as tie
 

@@ -6,7 +6,7 @@ use mir.Syntax.{w16, w32}
 use mir.Facts.{toZ-ofZ}
 use Rattle.stages.specs.Lists.{_!_}
 use Rattle.stages.specs.Stage.Ar2.{ar2After}
-use Rattle.stages.proofs.Laws.Fit.{back}
+use Rattle.fixed.proofs.Laws.Fit.{back}
 use Rattle.stages.proofs.ar2.moved.Statement.{statement}
 use Rattle.stages.proofs.ar2.moved.Tie as tie
 

@@ -3,7 +3,7 @@
 use borrow.Author.Needs.{needs}
 use mir.Syntax.{w16, w32}
 use Rattle.stages.specs.Stage.Down2.{down2Out, down2Sum, down2Next}
-use Rattle.stages.proofs.Laws.Fit.{back}
+use Rattle.fixed.proofs.Laws.Fit.{back}
 use Rattle.stages.proofs.down2.step.Statement.{statement}
 use Rattle.stages.proofs.down2.step.Tie as tie
 

@@ -5,10 +5,10 @@ use mathlib.Core.List.{[], _∷_}
 use borrow.Author.Needs.{needs}
 use lib.IntN.{pos, _+ℤ_}
 use mir.Syntax.{w16, w32}
-use Rattle.stages.specs.Fixed.{wrapped, times, narrowed}
+use Rattle.fixed.specs.Fixed.{wrapped, times, narrowed}
 use Rattle.stages.specs.Reader.{sum}
 use Rattle.stages.specs.Stage.Down2_3.{tapped}
-use Rattle.stages.proofs.Laws.Fit.{back}
+use Rattle.fixed.proofs.Laws.Fit.{back}
 use Rattle.stages.proofs.down2_3.four.Statement.{statement}
 use Rattle.stages.proofs.down2_3.four.Tie as tie
 

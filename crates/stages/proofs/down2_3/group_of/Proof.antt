@@ -5,12 +5,12 @@ use mathlib.Core.List.{[], _∷_}
 use borrow.Author.Needs.{needs}
 use mir.Syntax.{w16, w32}
 use Rattle.stages.specs.Lists.{_!_}
-use Rattle.stages.specs.Fixed.{narrowed}
+use Rattle.fixed.specs.Fixed.{narrowed}
 use Rattle.stages.specs.Reader.{sum}
 use Rattle.stages.specs.Rom.{silk-Resampler-2-3-COEFS-LQ}
 use Rattle.stages.specs.Stage.Ar2.{ar2, ar2End}
 use Rattle.stages.specs.Stage.Down2_3.{firstTaps, secondTaps, tapped, down23, down23End}
-use Rattle.stages.proofs.Laws.Fit.{back}
+use Rattle.fixed.proofs.Laws.Fit.{back}
 use Rattle.stages.proofs.Laws.Groups.{six, one-out, one-end}
 use Rattle.stages.proofs.down2_3.group_of.Statement.{statement}
 use Rattle.stages.proofs.down2_3.group_of.Tie as tie

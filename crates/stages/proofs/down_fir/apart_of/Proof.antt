@@ -11,10 +11,10 @@ use lib.IntN.{pos}
 use lib.ListN.{length, take, drop, length-drop}
 use lib.Seq.{length-take-le}
 use mir.Syntax.{w32}
-use Rattle.stages.specs.Fixed.{times}
+use Rattle.fixed.specs.Fixed.{times}
 use Rattle.stages.specs.Reader.{sum}
 use Rattle.stages.specs.Stage.DownFir.{apart, rows}
-use Rattle.stages.proofs.Laws.Fit.{back}
+use Rattle.fixed.proofs.Laws.Fit.{back}
 use Rattle.stages.proofs.Laws.Dot.{sum-parts}
 use Rattle.stages.proofs.Laws.Taps.{row-below, mirrored-at}
 use Rattle.stages.proofs.down_fir.apart_of.Statement.{statement}

@@ -9,10 +9,10 @@ use borrow.Author.Tests.{lt-ltb}
 use denote.Ref.{now}
 use lib.IntN.{pos}
 use mir.Syntax.{w16, w32}
-use Rattle.stages.specs.Fixed.{times, narrowed}
+use Rattle.fixed.specs.Fixed.{times, narrowed}
 use Rattle.stages.specs.Reader.{sum}
 use Rattle.stages.specs.Stage.DownFir.{fir, filtered, inPairs, rows, outerSums}
-use Rattle.stages.proofs.Laws.Fit.{back}
+use Rattle.fixed.proofs.Laws.Fit.{back}
 use Rattle.stages.proofs.Laws.Taps.{row-first}
 use Rattle.stages.proofs.down_fir.output.Statement.{statement}
 use Rattle.stages.proofs.down_fir.output.Tie as tie

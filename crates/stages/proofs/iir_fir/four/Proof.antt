@@ -7,8 +7,8 @@ use denote.Ref.{now}
 use lib.IntN.{_+ℤ_, _*ℤ_}
 use mir.Syntax.{w16, w32}
 use Rattle.stages.specs.Lists.{_!_}
-use Rattle.stages.specs.Fixed.{wrapped}
-use Rattle.stages.proofs.Laws.Fit.{back}
+use Rattle.fixed.specs.Fixed.{wrapped}
+use Rattle.fixed.proofs.Laws.Fit.{back}
 use Rattle.stages.proofs.Laws.Dot.{sum-four}
 use Rattle.stages.proofs.iir_fir.four.Statement.{statement}
 use Rattle.stages.proofs.iir_fir.four.Tie as tie

@@ -9,11 +9,11 @@ use denote.Ref.{now}
 use lib.IntN.{pos, _*ℤ_}
 use lib.ListN.{drop, getD}
 use mir.Syntax.{w16, w32}
-use Rattle.stages.specs.Fixed.{narrowed}
+use Rattle.fixed.specs.Fixed.{narrowed}
 use Rattle.stages.specs.Rom.{silk-resampler-frac-FIR-12}
 use Rattle.stages.specs.Reader.{sum}
 use Rattle.stages.specs.Stage.IirFir.{interpolated, interpolation}
-use Rattle.stages.proofs.Laws.Fit.{back}
+use Rattle.fixed.proofs.Laws.Fit.{back}
 use Rattle.stages.proofs.Laws.Dot.{sum-parts}
 use Rattle.stages.proofs.Laws.Taps.{row-below, frac-width, frac-mirrored}
 use Rattle.stages.proofs.iir_fir.output.Statement.{statement}

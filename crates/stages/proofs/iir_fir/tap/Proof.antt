@@ -4,8 +4,8 @@ use mathlib.Core.Path.{_≡_, _∙_}
 use borrow.Author.Needs.{needs}
 use lib.IntN.{_+ℤ_, _*ℤ_}
 use mir.Syntax.{w16, w32}
-use Rattle.stages.specs.Fixed.{wrapped}
-use Rattle.stages.proofs.Laws.Fit.{at, back, rd, fit, cast, widen16, mul16-fits}
+use Rattle.fixed.specs.Fixed.{wrapped}
+use Rattle.fixed.proofs.Laws.Fit.{at, back, rd, fit, cast, widen16, mul16-fits}
 use Rattle.stages.proofs.iir_fir.tap.Statement.{statement}
 use Rattle.stages.proofs.iir_fir.tap.Tie as tie
 

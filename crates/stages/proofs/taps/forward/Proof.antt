@@ -6,9 +6,9 @@ use borrow.Author.Needs.{needs}
 use denote.Ref.{now}
 use mir.Syntax.{w16, w32}
 use Rattle.stages.specs.Lists.{_!_}
-use Rattle.stages.specs.Fixed.{times}
+use Rattle.fixed.specs.Fixed.{times}
 use Rattle.stages.specs.Reader.{sum}
-use Rattle.stages.proofs.Laws.Fit.{back}
+use Rattle.fixed.proofs.Laws.Fit.{back}
 use Rattle.stages.proofs.Laws.Dot.{third, sum-three}
 use Rattle.stages.proofs.taps.forward.Statement.{statement}
 use Rattle.stages.proofs.taps.forward.Tie as tie

@@ -9,10 +9,10 @@ use lib.IntN.{pos}
 use lib.ListN.{take, drop}
 use mir.Syntax.{w32}
 use mir.Val.{toZ}
-use Rattle.stages.specs.Fixed.{times}
+use Rattle.fixed.specs.Fixed.{times}
 use Rattle.stages.specs.Reader.{sum}
 use Rattle.stages.specs.Stage.DownFir.{outerSums}
-use Rattle.stages.proofs.Laws.Fit.{back}
+use Rattle.fixed.proofs.Laws.Fit.{back}
 use Rattle.stages.proofs.Laws.Lengths.{outerSums-length}
 use Rattle.stages.proofs.Laws.Dot.{sum-more}
 use Rattle.stages.proofs.taps.half_inward.Statement.{statement}

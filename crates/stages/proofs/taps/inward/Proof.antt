@@ -7,10 +7,10 @@ use borrow.Author.Needs.{needs}
 use denote.Ref.{now}
 use mir.Syntax.{w16, w32}
 use Rattle.stages.specs.Lists.{_!_}
-use Rattle.stages.specs.Fixed.{times}
+use Rattle.fixed.specs.Fixed.{times}
 use Rattle.stages.specs.Reader.{sum}
 use Rattle.stages.specs.Stage.DownFir.{outerSums}
-use Rattle.stages.proofs.Laws.Fit.{back}
+use Rattle.fixed.proofs.Laws.Fit.{back}
 use Rattle.stages.proofs.Laws.Lengths.{outerSums-length}
 use Rattle.stages.proofs.Laws.Dot.{third, sum-three}
 use Rattle.stages.proofs.taps.inward.Statement.{statement}

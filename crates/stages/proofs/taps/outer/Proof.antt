@@ -7,9 +7,9 @@ use denote.Ref.{now}
 use lib.IntN.{pos, _+ℤ_}
 use mir.Syntax.{w32}
 use Rattle.stages.specs.Lists.{_!_}
-use Rattle.stages.specs.Fixed.{wrapped}
+use Rattle.fixed.specs.Fixed.{wrapped}
 use Rattle.stages.specs.Stage.DownFir.{outerSums}
-use Rattle.stages.proofs.Laws.Fit.{back}
+use Rattle.fixed.proofs.Laws.Fit.{back}
 use Rattle.stages.proofs.Laws.Lists.{tabulate-at}
 use Rattle.stages.proofs.taps.outer.Statement.{statement}
 use Rattle.stages.proofs.taps.outer.Tie as tie

@@ -4,8 +4,8 @@ use borrow.Author.Needs.{needs}
 use mathlib.Core.Path.{_∙_}
 use lib.IntN.{_+ℤ_}
 use mir.Syntax.{w16, w32}
-use Rattle.stages.specs.Fixed.{wrapped, times}
-use Rattle.stages.proofs.Laws.Fit.{back}
+use Rattle.fixed.specs.Fixed.{wrapped, times}
+use Rattle.fixed.proofs.Laws.Fit.{back}
 use Rattle.stages.proofs.taps.tap.Statement.{statement}
 use Rattle.stages.proofs.taps.tap.Tie as tie
 

@@ -13,7 +13,7 @@ use mir.Syntax.{w16}
 use Rattle.stages.specs.Lists.{joined, _!_}
 use Rattle.stages.specs.Run.{run}
 use Rattle.stages.specs.Stage.Up2Hq.{up2Out, up2Next, up2, up2End}
-use Rattle.stages.proofs.Laws.Fit.{at, back}
+use Rattle.fixed.proofs.Laws.Fit.{at, back}
 use Rattle.stages.proofs.Laws.Lengths.{up2Next-length, up2-length}
 use Rattle.stages.proofs.Laws.Lists.{drop-next, drop-none}
 use Rattle.stages.proofs.Laws.Loop.{Doubling, double-start, double-room, double-turn, double-end}

@@ -8,10 +8,10 @@ use lib.ListN.{take, drop, length-drop}
 use lib.Seq.{take-all}
 use mir.Syntax.{w16, w32}
 use Rattle.stages.specs.Rom.{silk-resampler-up2-hq-0, silk-resampler-up2-hq-1}
-use Rattle.stages.specs.Fixed.{narrowed}
+use Rattle.fixed.specs.Fixed.{narrowed}
 use Rattle.stages.specs.Section.{scaled, rowOut, rowNext}
 use Rattle.stages.specs.Stage.Up2Hq.{up2Out, up2Even, up2Odd, up2Next}
-use Rattle.stages.proofs.Laws.Fit.{at, back}
+use Rattle.fixed.proofs.Laws.Fit.{at, back}
 use Rattle.stages.proofs.up2_hq.step.Statement.{statement}
 use Rattle.stages.proofs.up2_hq.step.Tie as tie
 

@@ -8,7 +8,7 @@ use borrow.Author.Needs.{needs}
 use mir.Syntax.{w32}
 use Rattle.stages.specs.Lists.{_!_}
 use Rattle.stages.specs.Section.{sectionOut, sectionNext}
-use Rattle.stages.proofs.Laws.Fit.{back}
+use Rattle.fixed.proofs.Laws.Fit.{back}
 use Rattle.stages.proofs.Laws.Section.{row-three}
 use Rattle.stages.proofs.up2_hq.three.Statement.{statement}
 use Rattle.stages.proofs.up2_hq.three.Tie as tie

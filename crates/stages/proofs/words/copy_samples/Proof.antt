@@ -8,7 +8,7 @@ use lib.IntN.{pos}
 use lib.ListN.{length, drop}
 use mir.Syntax.{w16}
 use Rattle.stages.specs.Lists.{_!_}
-use Rattle.stages.proofs.Laws.Fit.{back}
+use Rattle.fixed.proofs.Laws.Fit.{back}
 use Rattle.stages.proofs.Laws.Lists.{drop-next, drop-none}
 use Rattle.stages.proofs.Laws.Loop.{Filling, fill-start, fill-one, fill-end}
 use Rattle.stages.proofs.words.copy_samples.Statement.{statement}

@@ -1,0 +1,3 @@
+-- What the word arithmetic is defined to do.
+pub mod Choice
+pub mod Fixed
