@@ -1,5 +1,6 @@
 -- The laws that the proofs cite, each subject in its own file, lower ones first. Other crates cite them too.
 pub mod Lists
+pub mod Run
 pub mod Section
 pub mod Dot
 pub mod Taps
@@ -7,5 +8,6 @@ pub mod Lengths
 pub mod Loop
 pub mod Reading
 pub mod Pass
+pub mod Parts
 pub mod Groups
 pub mod Outcome

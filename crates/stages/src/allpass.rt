@@ -1,6 +1,7 @@
 // The allpass section, alone and one each on the even and the odd samples of a signal.
 // Meaning: specs/Section.antt. The Rust writes it out in place, in the doubler, the 1/2 decimator and the split.
 ghost use mathlib.Core.Path.{_≡_};
+ghost use mathlib.Core.List.{[], _∷_};
 ghost use Prim.Native.Nat.{_<_};
 ghost use lib.IntN.{natAbs};
 ghost use Rattle.stages.specs.Section.{scaled, sectionOut, sectionNext, evenOut, oddOut, halvesNext};
@@ -11,9 +12,10 @@ pub struct Section {
     pub word: i32,
 }
 
-// Two words, between two turns of a loop.
+// The words of the two sections, between two turns of a loop. Two fields: an array of two would travel in one register.
 pub struct Words {
-    pub w: [i32; 2],
+    pub even: i32,
+    pub odd: i32,
 }
 
 // What the two sections put out, and their words.
@@ -40,18 +42,20 @@ pub fn allpass(a: i32, s: i32, x: i32) -> Section
     Section { out, word }
 }
 
-// Section a on the even sample x, with word 0, and section b on the odd sample y, with word 1.
+// Section a on the even sample x and section b on the odd sample y.
 pub fn both(a: i32, b: i32, s: Words, x: i16, y: i16) -> Halves
     requires { ⌜ (natAbs a < 65536) × (natAbs b < 65536) ⌝ }
-    ensures { λ r. ⌜ (r .even ≡ evenOut a (s .w) (x, y)) × (r .odd ≡ oddOut b (s .w) (x, y)) × (r .words .w ≡ halvesNext a b (s .w) (x, y)) ⌝ }
+    ensures { λ r. ⌜ (r .even ≡ evenOut a (s .even ∷ s .odd ∷ []) (x, y)) × (r .odd ≡ oddOut b (s .even ∷ s .odd ∷ []) (x, y)) ⌝ }
+    ensures { λ r. ⌜ r .words .even ∷ r .words .odd ∷ [] ≡ halvesNext a b (s .even ∷ s .odd ∷ []) (x, y) ⌝ }
 {
-    let e = allpass(a, s.w[0], scale(x));
-    let o = allpass(b, s.w[1], scale(y));
-    let even = e.word;
-    let odd = o.word;
+    let e = allpass(a, s.even, scale(x));
+    let o = allpass(b, s.odd, scale(y));
     Halves {
         even: e.out,
         odd: o.out,
-        words: Words { w: [even, odd] },
+        words: Words {
+            even: e.word,
+            odd: o.word,
+        },
     }
 }

@@ -7,6 +7,7 @@ use crate::answer;
 use crate::answer::Answer;
 use crate::rom;
 ghost use mathlib.Core.Path.{_≡_};
+ghost use mathlib.Core.List.{[], _∷_};
 ghost use Prim.Native.Nat.{_/_, _≤_};
 ghost use lib.ListN.{length};
 ghost use Rattle.stages.specs.Outcome.{Staged, outcome};
@@ -27,7 +28,8 @@ struct Banded {
 }
 
 fn step(s: Words, x: i16, y: i16) -> Banded
-    ensures { λ r. ⌜ (r .low ≡ lowOut (s .w) (x, y)) × (r .high ≡ highOut (s .w) (x, y)) × (r .words .w ≡ splitNext (s .w) (x, y)) ⌝ }
+    ensures { λ r. ⌜ (r .low ≡ lowOut (s .even ∷ s .odd ∷ []) (x, y)) × (r .high ≡ highOut (s .even ∷ s .odd ∷ []) (x, y)) ⌝ }
+    ensures { λ r. ⌜ r .words .even ∷ r .words .odd ∷ [] ≡ splitNext (s .even ∷ s .odd ∷ []) (x, y) ⌝ }
 {
     let h = allpass::both(rom::A_fb1_21, rom::A_fb1_20, s, x, y);
     let low = fixed::narrow(fixed::add(h.odd, h.even), 11);
@@ -38,12 +40,15 @@ fn step(s: Words, x: i16, y: i16) -> Banded
 
 // Fills the front of both bands and returns the words after the input.
 fn bands(words: [i32; 2], low: &mut [i16], high: &mut [i16], input: &[i16]) -> [i32; 2]
-    requires { ⌜ (length (now input) / 2 ≤ length (now low)) × (length (now input) / 2 ≤ length (now high)) ⌝ }
+    requires { ⌜ (length words ≡ 2) × (length (now input) / 2 ≤ length (now low)) × (length (now input) / 2 ≤ length (now high)) ⌝ }
     ensures { λ r. ⌜ Staged (splitLow words (now (input .entry))) (splitEnd words (now (input .entry))) (now (low .entry)) (now (low .exit)) r ⌝ }
     ensures { λ r. ⌜ Staged (splitHigh words (now (input .entry))) (splitEnd words (now (input .entry))) (now (high .entry)) (now (high .exit)) r ⌝ }
 {
     let half = input.len() / 2;
-    let mut s = Words { w: words };
+    let mut s = Words {
+        even: words[0],
+        odd: words[1],
+    };
     let mut k = 0;
     while k < half {
         let j = 2 * k;
@@ -55,7 +60,7 @@ fn bands(words: [i32; 2], low: &mut [i16], high: &mut [i16], input: &[i16]) -> [
         s = b.words;
         k += 1;
     }
-    s.w
+    [s.even, s.odd]
 }
 
 // Takes an even number of samples, at most 48,000, and two outputs of just half as many places.

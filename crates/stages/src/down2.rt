@@ -5,12 +5,17 @@ use crate::allpass;
 use crate::allpass::Words;
 use crate::answer;
 use crate::answer::Answer;
+use crate::rates;
 use crate::rom;
+use crate::words;
 ghost use mathlib.Core.Path.{_≡_};
+ghost use mathlib.Core.List.{[], _∷_};
 ghost use Prim.Native.Nat.{_/_, _≤_};
 ghost use lib.ListN.{length};
+ghost use Rattle.stages.specs.Lists.{pairs};
+ghost use Rattle.stages.specs.Run.{run};
 ghost use Rattle.stages.specs.Outcome.{Staged, outcome};
-ghost use Rattle.stages.specs.Stage.Down2.{down2Out, down2Next, down2, down2End};
+ghost use Rattle.stages.specs.Stage.Down2.{down2Sum, down2Next, down2, down2End};
 ghost use Rattle.stages.specs.Entry.{down2Outcome};
 
 // What a call answers, and the words after it.
@@ -19,14 +24,19 @@ pub struct Halved {
     pub words: [i32; 2],
 }
 
-// The output for two samples, and the words after them.
-struct Decimated {
-    out: i16,
+// The two sections' outputs for two samples added up, and the words after them.
+struct Added {
+    sum: i32,
     words: Words,
 }
 
-fn step(s: Words, x: i16, y: i16) -> Decimated
-    ensures { λ r. ⌜ (r .out ≡ down2Out (s .w) (x, y)) × (r .words .w ≡ down2Next (s .w) (x, y)) ⌝ }
+// The words between two parts of the input.
+struct Carried {
+    w: [i32; 2],
+}
+
+fn step(s: Words, x: i16, y: i16) -> Added
+    ensures { λ r. ⌜ (r .sum ≡ down2Sum (s .even ∷ s .odd ∷ []) (x, y)) × (r .words .even ∷ r .words .odd ∷ [] ≡ down2Next (s .even ∷ s .odd ∷ []) (x, y)) ⌝ }
 {
     let h = allpass::both(
         rom::silk_resampler_down2_1,
@@ -35,26 +45,60 @@ fn step(s: Words, x: i16, y: i16) -> Decimated
         x,
         y,
     );
-    let out = fixed::narrow(fixed::add(h.even, h.odd), 11);
+    let sum = fixed::add(h.even, h.odd);
     let words = h.words;
-    Decimated { out, words }
+    Added { sum, words }
 }
 
-// Fills the front of the output and returns the words after the input.
-fn decimate(words: [i32; 2], out: &mut [i16], input: &[i16]) -> [i32; 2]
-    requires { ⌜ length (now input) / 2 ≤ length (now out) ⌝ }
-    ensures { λ r. ⌜ Staged (down2 words (now (input .entry))) (down2End words (now (input .entry))) (now (out .entry)) (now (out .exit)) r ⌝ }
+// Fills the front of the output with the sums, and returns the words after the input.
+fn sums(words: [i32; 2], out: &mut [i32], input: &[i16]) -> [i32; 2]
+    requires { ⌜ (length words ≡ 2) × (length (now input) / 2 ≤ length (now out)) ⌝ }
+    ensures { λ r. ⌜ Staged (run down2Sum down2Next words (pairs (now (input .entry)))) (down2End words (now (input .entry))) (now (out .entry)) (now (out .exit)) r ⌝ }
 {
     let half = input.len() / 2;
-    let mut s = Words { w: words };
+    let mut s = Words {
+        even: words[0],
+        odd: words[1],
+    };
     let mut k = 0;
     while k < half {
         let j = 2 * k;
         let d = step(s, input[j], input[j + 1]);
-        let y = d.out;
+        let y = d.sum;
         out[k] = y;
         s = d.words;
         k += 1;
+    }
+    [s.even, s.odd]
+}
+
+// A part of at most 960 samples.
+fn part(words: [i32; 2], out: &mut [i16], input: &[i16]) -> Carried
+    requires { ⌜ (length words ≡ 2) × (length (now input) ≤ 960) × (length (now input) / 2 ≤ length (now out)) ⌝ }
+    ensures { λ r. ⌜ Staged (down2 words (now (input .entry))) (down2End words (now (input .entry))) (now (out .entry)) (now (out .exit)) (r .w) ⌝ }
+{
+    let half = input.len() / 2;
+    let mut buf = [0i32; 480];
+    let w = sums(words, &mut buf, input);
+    words::narrow(out, 11, &buf[..half]);
+    Carried { w }
+}
+
+// Fills the front of the output, part by part, and returns the words after the input.
+fn decimate(words: [i32; 2], out: &mut [i16], input: &[i16]) -> [i32; 2]
+    requires { ⌜ (length words ≡ 2) × (length (now input) / 2 ≤ length (now out)) ⌝ }
+    ensures { λ r. ⌜ Staged (down2 words (now (input .entry))) (down2End words (now (input .entry))) (now (out .entry)) (now (out .exit)) r ⌝ }
+{
+    let mut s = Carried { w: words };
+    let mut done = 0;
+    let mut at = 0;
+    while at < input.len() {
+        let n = rates::least(input.len() - at, 960);
+        let e = at + n;
+        let w = s.w;
+        s = part(w, &mut out[done..], &input[at..e]);
+        done += n / 2;
+        at = e;
     }
     s.w
 }

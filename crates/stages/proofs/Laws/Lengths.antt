@@ -12,14 +12,15 @@ use Rattle.stages.specs.Run.{run}
 use Rattle.stages.specs.Rom.{silk-resampler-up2-hq-0, silk-resampler-up2-hq-1}
 use Rattle.stages.specs.declared.rates.Rates.{Rates}
 use Rattle.stages.specs.Reader.{read, outputs}
-use Rattle.stages.specs.Section.{scaled, sectionOut, rowNext}
+use Rattle.stages.specs.Section.{scaled, sectionOut, rowNext, halvesNext}
 use Rattle.stages.specs.Stage.Ar2.{ar2, ar2End, ar2Out, ar2After, ar2Next}
-use Rattle.stages.specs.Stage.Up2Hq.{up2, up2End, up2Out, up2Next}
+use Rattle.stages.specs.Stage.Up2Hq.{up2, up2End, up2Raw, up2Out, up2Next}
 use Rattle.stages.specs.Stage.DownFir.{Filter, outerSums, downFir, downBatch}
 use Rattle.stages.specs.Stage.IirFir.{iirFir, iirFirCarried, iirFirBatch, iirFirNext}
-use Rattle.stages.specs.Stage.Down2.{down2, down2Out, down2Next}
+use Rattle.stages.specs.Stage.Down2.{down2, down2End, down2Out, down2Next}
 use Rattle.stages.specs.Stage.AnaFiltBank1.{splitLow, splitHigh, lowOut, highOut, splitNext}
-use Rattle.stages.proofs.Laws.Lists.{run-length, end-keeps, tabulate-length, pairs-length}
+use Rattle.stages.proofs.Laws.Lists.{tabulate-length, pairs-length}
+use Rattle.stages.proofs.Laws.Run.{run-length, end-keeps}
 
 -- ---- AR2
 
@@ -50,10 +51,19 @@ pub up2End-length : (w xs : List ℤ) → length w ≡ 6 → length (up2End w xs
 unfolding up2End
 up2End-length w xs h = end-keeps up2Next (λ v. length v ≡ 6) up2Next-length w xs h
 
+-- a run that puts out two each time, before narrowing and after
+two-each : (out : List ℤ → ℤ → List ℤ) → ((w : List ℤ) (x : ℤ) → length (out w x) ≡ 2) → (w xs : List ℤ) → length (joined (run out up2Next w xs)) ≡ 2 * length xs
+unfolding run joined
+two-each out two w [] = refl
+two-each out two w (x ∷ xs) = let e = two-each out two (up2Next w x) xs in length-append (out w x) _ ∙ omega (arith, two w x)
+
+pub up2Raw-length : (w xs : List ℤ) → length (joined (run up2Raw up2Next w xs)) ≡ 2 * length xs
+unfolding up2Raw
+up2Raw-length = two-each up2Raw (λ w x. refl)
+
 pub up2-length : (w xs : List ℤ) → length (up2 w xs) ≡ 2 * length xs
-unfolding up2 run joined up2Out
-up2-length w [] = refl
-up2-length w (x ∷ xs) = let e = up2-length (up2Next w x) xs in omega arith
+unfolding up2 up2Out
+up2-length = two-each up2Out (λ w x. refl)
 
 -- ---- the down filters
 
@@ -83,6 +93,10 @@ iirFirNext-length s xs h k =
 pub down2-length : (w xs : List ℤ) → length (down2 w xs) ≡ length xs / 2
 unfolding down2
 down2-length w xs = run-length down2Out down2Next w _ ∙ pairs-length xs
+
+pub down2End-length : (w xs : List ℤ) → length w ≡ 2 → length (down2End w xs) ≡ 2
+unfolding down2End down2Next halvesNext
+down2End-length w xs h = end-keeps down2Next (λ v. length v ≡ 2) (λ v x k. refl) w _ h
 
 pub splitLow-length : (w xs : List ℤ) → length (splitLow w xs) ≡ length xs / 2
 unfolding splitLow

@@ -1,4 +1,4 @@
--- Laws of the lists of specs/Lists.antt and of the runs of specs/Run.antt. Assumes nothing.
+-- Laws of the lists of specs/Lists.antt. Assumes nothing.
 use mathlib.Core.Path.{_≡_, refl, sym, ap, _∙_}
 use mathlib.Core.Bool.{Bool, true, false, _&&_}
 use mathlib.Core.List.{List, [], _∷_, _++_}
@@ -35,6 +35,12 @@ take-three xs at h =
     let e : at + 1 ≡ suc at = omega arith in
     let f : at + 2 ≡ suc (suc at) = omega arith in
     rw (drop-cons xs at (pos 0) (omega arith), drop-cons xs (suc at) (pos 0) (omega arith), drop-cons xs (suc (suc at)) (pos 0) (omega arith), e, f)
+
+pub all-two : (xs : List ℤ) → length xs ≡ 2 → xs ≡ xs ! 0 ∷ xs ! 1 ∷ []
+all-two [] h = absurd (omega arith)
+all-two (x ∷ []) h = absurd (omega arith)
+all-two (x ∷ y ∷ []) h = refl
+all-two (x ∷ y ∷ z ∷ xs) h = absurd (omega arith)
 
 pub all-four : (xs : List ℤ) → length xs ≡ 4 → xs ≡ xs ! 0 ∷ xs ! 1 ∷ xs ! 2 ∷ xs ! 3 ∷ []
 all-four [] h = absurd (omega arith)
@@ -169,14 +175,13 @@ pairs-none xs k h = empty (drop (2 * k) xs) (omega (arith, length-drop (2 * k) x
     empty (y ∷ []) l = refl
     empty (y ∷ z ∷ ys) l = absurd (omega arith)
 
-module _ {S A B : Type 0} (out : S → A → B) (next : S → A → S) where
-  pub run-length : (s : S) (xs : List A) → length (run out next s xs) ≡ length xs
-  unfolding run
-  run-length s [] = refl
-  run-length s (x ∷ xs) = ap suc (run-length (next s x) xs)
+twice : (m : ℕ) → 2 * suc m ≡ suc (suc (2 * m))
+twice m = omega arith
 
--- what holds of a state and is kept by each step holds at the end
-pub end-keeps : {S A : Type 0} (next : S → A → S) (P : S → Type 0) → ((s : S) (x : A) → P s → P (next s x)) → (s : S) (xs : List A) → P s → P (end next s xs)
-unfolding end
-end-keeps next P keep s [] h = h
-end-keeps next P keep s (x ∷ xs) h = end-keeps next P keep (next s x) xs (keep s x h)
+-- an even number of entries are whole pairs
+pub pairs-split : {A : Type 0} (m : ℕ) (xs : List A) → pairs xs ≡ pairs (take (2 * m) xs) ++ pairs (drop (2 * m) xs)
+unfolding pairs
+pairs-split zero xs = refl
+pairs-split (suc m) [] = rw (twice m) refl
+pairs-split (suc m) (x ∷ []) = rw (twice m) refl
+pairs-split (suc m) (x ∷ y ∷ xs) = rw (twice m) (ap (λ (t : List _). (x, y) ∷ t) (pairs-split m xs))

@@ -11,7 +11,7 @@ use lib.Seq.{length-take-le, take-append-seam, drop-append-seam, take-all, take-
 use Rattle.stages.specs.Lists.{joined}
 use Rattle.stages.specs.Run.{run, end}
 use Rattle.stages.specs.Outcome.{over}
-use Rattle.stages.proofs.Laws.Lists.{run-length}
+use Rattle.stages.proofs.Laws.Run.{run-length}
 
 -- ---- whatever it is filled with
 

@@ -51,31 +51,44 @@ module _ {S A B : Type 0} (out : S → List A → List B) (next : S → List A �
   unfolding passOut passEnd
   pass-start h = record { within = omega arith; room = h; filling = fill-start _ before; state = refl }
 
-  module _ {at done : ℕ} {o : List B} {s : S} (p : 0 < n) (h : at < length xs) (f : Passing at done o s) where
-    -- the part of the input that is the next batch
+  -- a turn takes m entries from `at` on
+  module _ {at done : ℕ} {o : List B} {s : S} (p : 0 < n) (m : ℕ) (e : m ≡ min (length xs - at) n) (h : at < length xs) (f : Passing at done o s) where
     abbrev part : List A
-    part = take (min (length xs - at) n) (drop at xs)
+    part = take (at + m - at) (drop at xs)
+
+    pub part-length : length part ≡ m
+    part-length = length-take (at + m - at) (drop at xs) ∙ omega (arith, length-drop at xs)
+
+    here : cut n (drop at xs) ≡ part ∷ cut n (drop (at + m) xs)
+    here =
+        let count : min (length xs - at) n ≡ at + m - at = omega arith in
+        cut-here n at xs p h ∙ (λ i. take (count i) (drop at xs) ∷ cut n (drop (at + sym e i) xs))
 
     abbrev rest : List B
-    rest = joined (run out next (next s part) (cut n (drop (at + min (length xs - at) n) xs)))
+    rest = joined (run out next (next s part) (cut n (drop (at + m) xs)))
 
     turn : Filling (passOut out next n s₀ xs) before done o (out s part ++ rest)
     unfolding run joined
-    turn = rw (cut-here n at xs p h) at (f .filling)
+    turn = rw here at (f .filling)
 
-    -- what it puts out has room
-    pass-room : done + length (out s part) ≤ length o
-    pass-room = let r = fill-room _ before (out s part ++ rest) turn (f .room) in omega (arith, length-append (out s part) rest)
+    -- where the stage puts out count n for n entries
+    module _ (count : ℕ → ℕ) (each : (s : S) (xs : List A) → length (out s xs) ≡ count (length xs)) where
+      made : length (out s part) ≡ count m
+      made = each s part ∙ ap count part-length
 
-    pass-turn : {zs : List B} {s' : S} → zs ≡ over (out s part) (midOf done (length o - done) o) → s' ≡ next s part
-        → Passing (at + min (length xs - at) n) (done + length (out s part)) (putMid done (length o - done) o zs) s'
-    unfolding end
-    pass-turn e d = rw d (record {
-      within = omega arith;
-      room = f .room;
-      filling = fill-part _ before (out s part) turn pass-room e;
-      state = rw (cut-here n at xs p h) at (f .state);
-    })
+      -- what it puts out has room
+      pub pass-room : done + count m ≤ length o
+      pass-room = let r = fill-room _ before (out s part ++ rest) turn (f .room) in omega (arith, made, length-append (out s part) rest)
+
+      pub pass-turn : {zs : List B} {s' : S} → zs ≡ over (out s part) (midOf done (length o - done) o) → s' ≡ next s part
+          → Passing (at + m) (done + count m) (putMid done (length o - done) o zs) s'
+      unfolding end
+      pass-turn d q = rw (← made, q) (record {
+        within = omega arith;
+        room = f .room;
+        filling = fill-part _ before (out s part) turn (rw made pass-room) d;
+        state = rw here at (f .state);
+      })
 
   pass-end : {at done : ℕ} {o : List B} {s : S} → length xs ≤ at → Passing at done o s
       → (o ≡ over (passOut out next n s₀ xs) before) × (s ≡ passEnd next n s₀ xs) × (done ≡ length (passOut out next n s₀ xs))
@@ -84,6 +97,36 @@ module _ {S A B : Type 0} (out : S → List A → List B) (next : S → List A �
       let e = drop-of-length-le xs {i = at} h in
       let none = rw (e, cut-nil n) at (f .filling) in
       (fill-end _ before none, rw (e, cut-nil n) at (f .state), fill-count _ before none)
+
+-- ---- a stage that makes of parts, one behind the other, what it makes of the whole: its pass is the stage itself
+
+module _ {S A B : Type 0} (out : S → List A → List B) (next : S → List A → S) (n : ℕ) (p : 0 < n)
+    (nothing : (s : S) → (out s [] ≡ []) × (next s [] ≡ s))
+    (parts : (s : S) (xs : List A) → (out s xs ≡ out s (take n xs) ++ out (next s (take n xs)) (drop n xs)) × (next s xs ≡ next (next s (take n xs)) (drop n xs))) where
+  pieces-whole : (fuel : ℕ) (s : S) (xs : List A) → length xs ≤ fuel
+      → (joined (run out next s (pieces fuel n xs)) ≡ out s xs) × (end next s (pieces fuel n xs) ≡ next s xs)
+  unfolding pieces run joined end
+  pieces-whole zero s [] h = (sym (nothing s .0), sym (nothing s .1))
+  pieces-whole zero s (x ∷ xs) h = absurd (omega arith)
+  pieces-whole (suc k) s [] h = (sym (nothing s .0), sym (nothing s .1))
+  pieces-whole (suc k) s (x ∷ xs) h =
+      let ys : List A = x ∷ xs in
+      let (o, e) = pieces-whole k (next s (take n ys)) (drop n ys) (omega (arith, length-drop n ys)) in
+      (ap (λ (t : List B). out s (take n ys) ++ t) o ∙ sym (parts s ys .0), e ∙ sym (parts s ys .1))
+
+  pass-whole : (s : S) (xs : List A) → (passOut out next n s xs ≡ out s xs) × (passEnd next n s xs ≡ next s xs)
+  unfolding passOut passEnd cut
+  pass-whole s xs = pieces-whole (length xs) s xs (omega arith)
+
+  pub whole-start : (s : S) (xs : List A) {before : List B} → length (out s xs) ≤ length before → Passing out next n xs before s 0 0 before s
+  whole-start s xs h = pass-start out next n xs _ s (rw (pass-whole s xs .0) h)
+
+  pub whole-end : {s₀ s : S} {xs : List A} {before o : List B} {at done : ℕ} → length xs ≤ at → Passing out next n xs before s₀ at done o s
+      → (o ≡ over (out s₀ xs) before) × (s ≡ next s₀ xs)
+  whole-end {s₀} {s} {xs} {before} h f =
+      let (a, b, c) = pass-end out next n xs before s₀ h f in
+      let (o, e) = pass-whole s₀ xs in
+      (a ∙ ap (λ (t : List B). over t before) o, b ∙ e)
 
 -- ---- whole milliseconds, k samples each
 
@@ -168,11 +211,11 @@ module _ {S : Type 0} (r : Rates) (p : 0 < r .inKhz) (out : S → List ℤ → L
     abbrev taking : List ℤ
     taking = take (at + n - at) (drop at xs)
 
-    count : at + n - at ≡ min (length xs - at) (10 * r .inKhz)
-    count = omega arith
+    taken-length : length taking ≡ n
+    taken-length = part-length out next _ xs before s₀ (omega arith) n e h (f .passing)
 
     taking-length : length taking ≡ min (length xs - at) (10 * r .inKhz)
-    taking-length = rw count (length-take (min (length xs - at) (10 * r .inKhz)) (drop at xs) ∙ omega (arith, length-drop at xs))
+    taking-length = taken-length ∙ e
 
     pub ms-whole : length taking % r .inKhz ≡ 0
     ms-whole = rw taking-length (batch-whole (r .inKhz) (length xs - at) (f .whole) .0)
@@ -181,19 +224,16 @@ module _ {S : Type 0} (r : Rates) (p : 0 < r .inKhz) (out : S → List ℤ → L
     ms-few = omega (arith, taking-length)
 
     pub ms-room : done + outputs r (length taking) ≤ length o
-    ms-room = rw (← each s taking, count) (pass-room out next _ xs before s₀ (omega arith) h (f .passing))
+    ms-room = rw taken-length (pass-room out next _ xs before s₀ (omega arith) n e h (f .passing) (outputs r) each)
 
     pub ms-turn : {zs : List ℤ} {s' : S} {written : ℕ} → written ≡ outputs r (length taking)
         → zs ≡ over (out s taking) (midOf done (length o - done) o) → s' ≡ next s taking
         → Milliseconds r out next xs before s₀ (at + n) (done + written) (putMid done (length o - done) o zs) s'
     ms-turn w d q =
         let left : length xs - (at + n) ≡ length xs - at - min (length xs - at) (10 * r .inKhz) = omega arith in
-        let made = w ∙ sym (each s taking) ∙ ap (λ (k : ℕ). length (out s (take k (drop at xs)))) count in
-        let z = d ∙ ap (λ (k : ℕ). over (out s (take k (drop at xs))) (midOf done (length o - done) o)) count in
-        let t = q ∙ ap (λ (k : ℕ). next s (take k (drop at xs))) count in
         record {
           whole = rw left (batch-whole (r .inKhz) (length xs - at) (f .whole) .1);
-          passing = rw (e, made) (pass-turn out next _ xs before s₀ (omega arith) h (f .passing) z t);
+          passing = rw (w, taken-length) (pass-turn out next _ xs before s₀ (omega arith) n e h (f .passing) (outputs r) each d q);
         }
 
   pub ms-end : {at done : ℕ} {o : List ℤ} {s : S} → length xs % r .inKhz ≡ 0 → length xs ≤ at → Milliseconds r out next xs before s₀ at done o s

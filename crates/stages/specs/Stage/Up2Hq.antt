@@ -16,6 +16,9 @@ up2Even w x = rowOut silk-resampler-up2-hq-0 (take 3 w) (scaled x)
 unfoldable pub up2Odd : List ℤ → ℤ → ℤ
 up2Odd w x = rowOut silk-resampler-up2-hq-1 (drop 3 w) (scaled x)
 
+unfoldable pub up2Raw : List ℤ → ℤ → List ℤ
+up2Raw w x = up2Even w x ∷ up2Odd w x ∷ []
+
 unfoldable pub up2Out : List ℤ → ℤ → List ℤ
 up2Out w x = narrowed 10 (up2Even w x) ∷ narrowed 10 (up2Odd w x) ∷ []
 

@@ -1,24 +1,19 @@
 -- `stages::allpass::both` meets its contract: the two sections are the definition's, on the sample and the word of each.
 -- Assumes nothing.
+use mathlib.Core.Path.{_≡_, ap, _∙_}
+use mathlib.Core.List.{[], _∷_}
 use borrow.Author.Needs.{needs}
 use mir.Syntax.{w16, w32}
-use Rattle.stages.specs.Lists.{_!_}
-use Rattle.stages.specs.Section.{evenOut, oddOut, halvesNext}
-use Rattle.fixed.proofs.Laws.Fit.{back}
+use Rattle.stages.specs.Section.{scaled, sectionOut, sectionNext, evenOut, oddOut, halvesNext}
+use Rattle.fixed.proofs.Laws.Fit.{at, back}
 use Rattle.stages.proofs.allpass.both.Statement.{statement}
 use Rattle.stages.proofs.allpass.both.Tie as tie
-
-element-copy-out-allpass : tie.Need-element-copy-out-allpass
-element-copy-out-allpass c = search needs
 
 scale-requires : tie.Need-scale-requires
 scale-requires c κs = search needs
 
 allpass-requires : tie.Need-allpass-requires
 allpass-requires c κs = search needs
-
-element-copy-out-allpass-2 : tie.Need-element-copy-out-allpass-2
-element-copy-out-allpass-2 c = search needs
 
 scale-requires-2 : tie.Need-scale-requires-2
 scale-requires-2 c κs = search needs
@@ -29,39 +24,28 @@ allpass-requires-2 c κs = search needs
 returns : tie.Need-returns
 unfolding evenOut oddOut halvesNext
 returns c =
-    let told = c .before .before .before in
-    let second = told .before in
-    let scaled2 = second .before in
-    let word2 = scaled2 .before in
-    let first = word2 .before in
-    let scaled1 = first .before in
-    let word1 = scaled1 .before in
-    let start = word1 .before in
-    let a = start .args in
-    let e = first .allpass .result in
-    let o = second .allpass2 .result in
-    let f0 = back w32 (a .a) (start .fits .a .sfits) in
-    let f1 = back w32 (a .b) (start .fits .b .sfits) in
-    let f2 = back w16 (a .x) (start .fits .x .sfits) in
-    let f3 = back w16 (a .y) (start .fits .y .sfits) in
-    let f4 = back w32 (a .t3 .w ! 0) (word1 .allpass-arg .given) in
-    let f5 = back w32 (a .t3 .w ! 1) (word2 .allpass-arg2 .given) in
-    let f6 = back w32 (scaled1 .scale .result) (scaled1 .scale .ok) in
-    let f7 = back w32 (scaled2 .scale2 .result) (scaled2 .scale2 .ok) in
-    let f8 = back w32 (e .out) (told .struct-told .given .0 .1) in
-    let f9 = back w32 (o .out) (c .before .before .struct-told2 .given .0 .1) in
-    let f10 = back w32 (e .word) (told .struct-told .given .1 .0 .1) in
-    let f11 = back w32 (o .word) (c .before .before .struct-told2 .given .1 .0 .1) in
-    ((cc), (cc), (cc))
+    let o1 = c .before in
+    let e1 = o1 .before in
+    let e0 = e1 .before in
+    let odd = e0 .before in
+    let even = odd .before .before .before in
+    let start = even .before .before .before in
+    let args = start .args in
+    let e = even .allpass .result in
+    let o = odd .allpass2 .result in
+    let a = back w32 (args .a) (start .fits .a .sfits) in
+    let b = back w32 (args .b) (start .fits .b .sfits) in
+    let s0 = back w32 (args .s .even) (even .before .struct-told .given .0 .1) in
+    let s1 = back w32 (args .s .odd) (odd .before .struct-told2 .given .1 .0 .1) in
+    let m = even .before .before .scale in
+    let n = odd .before .before .scale2 in
+    let x = back w32 (m .result) (m .ok) ∙ m .ensures ∙ ap scaled (back w16 (args .x) (start .fits .x .sfits)) in
+    let y = back w32 (n .result) (n .ok) ∙ n .ensures ∙ ap scaled (back w16 (args .y) (start .fits .y .sfits)) in
+    let even-out = back w32 (e .out) (e0 .struct-told3 .given .0 .1) ∙ even .allpass .ensures .0 ∙ (λ i. sectionOut (a i) (s0 i) (x i)) in
+    let odd-out = back w32 (o .out) (e1 .struct-told4 .given .0 .1) ∙ odd .allpass2 .ensures .0 ∙ (λ i. sectionOut (b i) (s1 i) (y i)) in
+    let even-word = back w32 (e .word) (o1 .struct-told5 .given .1 .0 .1) ∙ even .allpass .ensures .1 ∙ (λ i. sectionNext (a i) (s0 i) (x i)) in
+    let odd-word = back w32 (o .word) (c .struct-told6 .given .1 .0 .1) ∙ odd .allpass2 .ensures .1 ∙ (λ i. sectionNext (b i) (s1 i) (y i)) in
+    ((even-out, odd-out), λ i. even-word i ∷ odd-word i ∷ [])
 
 pub both-spec : {M : Type 1} → statement M
-both-spec =
-    tie.close
-    (tie.spec
-    element-copy-out-allpass
-    scale-requires
-    allpass-requires
-    element-copy-out-allpass-2
-    scale-requires-2
-    allpass-requires-2
-    returns)
+both-spec = tie.close (tie.spec scale-requires allpass-requires scale-requires-2 allpass-requires-2 returns)

@@ -35,8 +35,9 @@ halved c =
 
 bands-requires : tie.Need-bands-requires
 bands-requires c κs =
-    let h = halved (c .before .before) in
-    (omega arith, omega arith)
+    let t = c .before .before in
+    let h = halved t in
+    (omega (arith, t .before .before .good), omega arith, omega arith)
 
 same-length : tie.Need-same-length
 same-length c = search needs

@@ -1,97 +1,115 @@
--- `stages::down2::decimate` meets its contract: at each turn the outputs written, followed by what the definition makes of the
--- pairs left, are the whole.
+-- `stages::down2::decimate` meets its contract: what is made of parts, one behind the other, is what is made of the
+-- whole.
 -- Assumes nothing.
-use Prim.Native.Nat.{_+_, _*_, _-_, _/_, _≤_}
-use mathlib.Core.Path.{_≡_, refl, _∙_}
-use mathlib.Core.List.{_∷_}
+use mathlib.Core.Path.{_≡_}
+use mathlib.Core.List.{List}
+use Prim.Native.Nat.{ℕ, _+_, _/_, _-_, _<_, _≤_, min}
 use native.Mathlib.Omega.{arith}
 use borrow.Author.Needs.{needs}
 use denote.Ref.{now}
-use lib.IntN.{pos}
-use lib.ListN.{length, drop}
-use mir.Syntax.{w16}
-use Rattle.stages.specs.Lists.{pairs, _!_}
-use Rattle.stages.specs.Stage.Down2.{down2Out, down2Next, down2, down2End}
-use Rattle.fixed.proofs.Laws.Fit.{back}
-use Rattle.stages.proofs.Laws.Lists.{pairs-length, pairs-next, pairs-none}
-use Rattle.stages.proofs.Laws.Loop.{Running, run-start, run-room, run-turn, run-end}
+use lib.IntN.{ℤ}
+use lib.ListN.{length, drop, length-take, length-drop}
+use Rattle.stages.specs.Stage.Down2.{down2, down2End}
+use Rattle.stages.proofs.Laws.Lengths.{down2-length, down2End-length}
+use Rattle.stages.proofs.Laws.Pass.{Passing, part-length, pass-room, pass-turn, whole-start, whole-end}
+use Rattle.stages.proofs.Laws.Parts.{down2-nothing, down2-parts}
 use Rattle.stages.proofs.down2.decimate.Statement.{statement}
 use Rattle.stages.proofs.down2.decimate.Tie as tie
 
 abbrev Inv-loop : tie.InvT-loop
-Inv-loop out₀ input half s₀ k₀ out s k =
-    (half ≡ length input / 2) × (k ≤ half)
-    × Running down2Out down2Next (s₀ .w) (pairs input) out₀ k out (s .w) (pairs (drop (2 * k) input))
+Inv-loop out₀ input s₀ done₀ at₀ out s done at =
+    (length (s .w) ≡ 2) × Passing down2 down2End 960 input out₀ (s₀ .w) at done out (s .w)
 
 abbrev μ-loop : tie.MeasureT-loop
-μ-loop out₀ input half s₀ k₀ out s k = half - k
+μ-loop out₀ input s₀ done₀ at₀ out s done at = length input - at
 
--- the pair of a turn stands first among those left
-next : (c : tie.In-loop Inv-loop μ-loop) → let k = c .before .loop .k in let input = now (c .before .before .args .input) in
-    pairs (drop (2 * k) input) ≡ (input ! (2 * k), input ! (2 * k + 1)) ∷ pairs (drop (2 * (k + 1)) input)
-next c = pairs-next (now (c .before .before .args .input)) (c .before .loop .k) (pos 0) (omega arith)
+some : 0 < 960
+some = omega arith
+
+-- a turn: how many samples it takes, and that what it makes of them has room
+module _ (c : tie.After-least Inv-loop μ-loop) where
+  abbrev l : tie.At-loop Inv-loop μ-loop
+  l = c .before .before
+
+  count : c .least .result ≡ min (length (now (l .before .args .input)) - l .loop .at) 960
+  count = omega arith
+
+  room : l .loop .done + c .least .result / 2 ≤ length (l .loop .out)
+  room = pass-room _ _ _ _ _ _ some _ count (c .before .loop-test .taken) (l .loop .inv .1) (λ n. n / 2) down2-length
 
 loop-holds : tie.Need-loop-holds Inv-loop μ-loop
-loop-holds c = (refl, omega arith, run-start _ _ _ _ _ (rw pairs-length (c .pre)))
+loop-holds c =
+    let a = c .args in
+    let xs = now (a .input) in
+    (c .pre .0, whole-start down2 down2End 960 some down2-nothing (down2-parts 480) (a .words) xs (omega (arith, c .pre .1, down2-length (a .words) xs)))
 
-mul-j : tie.Need-mul-j Inv-loop μ-loop
-mul-j c = search needs
+sub-least : tie.Need-sub-least Inv-loop μ-loop
+sub-least c = search needs
 
-mul-step : tie.Need-mul-step Inv-loop μ-loop
-mul-step c = search needs
+least-requires : tie.Need-least-requires Inv-loop μ-loop
+least-requires c κs = search needs
 
-shared-slice-copy-out-step : tie.Need-shared-slice-copy-out-step Inv-loop μ-loop
-shared-slice-copy-out-step c = search needs
+add-e : tie.Need-add-e Inv-loop μ-loop
+add-e c = search needs
 
-add-step : tie.Need-add-step Inv-loop μ-loop
-add-step c = search needs
+mul-part : tie.Need-mul-part Inv-loop μ-loop
+mul-part c = search needs
 
-mul-step-2 : tie.Need-mul-step-2 Inv-loop μ-loop
-mul-step-2 c = search needs
+sub-part : tie.Need-sub-part Inv-loop μ-loop
+sub-part c = search needs
 
-shared-slice-copy-out-step-2 : tie.Need-shared-slice-copy-out-step-2 Inv-loop μ-loop
-shared-slice-copy-out-step-2 c = search needs
+part-part-start : tie.Need-part-part-start Inv-loop μ-loop
+part-part-start c = search needs
 
-step-requires : tie.Need-step-requires Inv-loop μ-loop
-step-requires c κs = search needs
+part-part-end : tie.Need-part-part-end Inv-loop μ-loop
+part-part-end c = search needs
 
-mul-y : tie.Need-mul-y Inv-loop μ-loop
-mul-y c = search needs
+mul-part-2 : tie.Need-mul-part-2 Inv-loop μ-loop
+mul-part-2 c = search needs
 
-slice-set-from-y : tie.Need-slice-set-from-y Inv-loop μ-loop
-slice-set-from-y c = run-room _ _ _ _ _ (next (c .before .before .before .before)) (c .before .before .before .before .before .loop .inv .2)
+sub-part-2 : tie.Need-sub-part-2 Inv-loop μ-loop
+sub-part-2 c = search needs
 
-add-k : tie.Need-add-k Inv-loop μ-loop
-add-k c = search needs
+part-part-start-2 : tie.Need-part-part-start-2 Inv-loop μ-loop
+part-part-start-2 c = search needs
+
+part-part-end-2 : tie.Need-part-part-end-2 Inv-loop μ-loop
+part-part-end-2 c = search needs
+
+part-requires : tie.Need-part-requires Inv-loop μ-loop
+part-requires c κs =
+    let n = c .before .before .before in
+    let k = l n .loop in
+    let taken = part-length _ _ _ _ _ _ some _ (count n) (n .before .loop-test .taken) (k .inv .1) in (
+      k .inv .0,
+      omega (arith, taken, count n),
+      omega (arith, taken, room n, length-take (length (k .out) - k .done) (drop (k .done) (k .out)), length-drop (k .done) (k .out)),
+    )
+
+add-done : tie.Need-add-done Inv-loop μ-loop
+add-done c =
+    let n = c .before .before .before .before .before in
+    record { fits = omega (arith, room n, l n .loop .inv .1 .filling .len, l n .before .good) }
 
 loop-less : tie.Need-loop-less Inv-loop μ-loop
 loop-less c = search needs
 
 loop-again : tie.Need-loop-again Inv-loop μ-loop
 loop-again c =
-    let d = c .before .before in
-    let t = d .before .before .before in
-    let l = t .before .loop in
-    let input = now (t .before .before .args .input) in
-    let x = back w16 (input ! (2 * l .k)) (d .before .before .step-arg .given) in
-    let y = back w16 (input ! (2 * l .k + 1)) (d .before .step-arg2 .given) in
-    let out = back w16 (d .step .result .out) (c .before .struct-told .given .0 .1) ∙ d .step .ensures .0 in (
-      refl,
-      omega arith,
-      run-turn _ _ _ _ _ (next t) (l .inv .2)
-          (out ∙ (λ i. down2Out (l .s .w) (x i, y i)))
-          (d .step .ensures .1 ∙ (λ i. down2Next (l .s .w) (x i, y i))),
+    let p = c .before .part .ensures in
+    let n = c .before .before .before .before .before in
+    let k = l n .loop in (
+      rw (p .carried) (down2End-length (k .s .w) _ (k .inv .0)),
+      pass-turn _ _ _ _ _ _ some _ (count n) (n .before .loop-test .taken) (k .inv .1) (λ n. n / 2) down2-length (p .filled) (p .carried),
     )
 
 same-length : tie.Need-same-length Inv-loop μ-loop
-same-length c = c .before .before .loop .inv .2 .filling .len
+same-length c = c .before .before .loop .inv .1 .filling .len
 
 returns : tie.Need-returns Inv-loop μ-loop
-unfolding down2 down2End
 returns c =
-    let l = c .before .before .loop in
-    let (filled, words) = run-end _ _ _ _ _ (pairs-none _ (l .k) (omega (arith, c .before .loop-test .left))) (l .inv .2) in
-    record { filled = filled; carried = words }
+    let (filled, carried) = whole-end down2 down2End 960 some down2-nothing (down2-parts 480) (c .before .loop-test .left) (c .before .before .loop .inv .1) in
+    record { filled = filled; carried = carried }
 
 pub decimate-spec : {M : Type 1} → statement M
 decimate-spec =
@@ -100,16 +118,19 @@ decimate-spec =
     Inv-loop
     μ-loop
     loop-holds
-    mul-j
-    mul-step
-    shared-slice-copy-out-step
-    add-step
-    mul-step-2
-    shared-slice-copy-out-step-2
-    step-requires
-    mul-y
-    slice-set-from-y
-    add-k
+    sub-least
+    least-requires
+    add-e
+    mul-part
+    sub-part
+    part-part-start
+    part-part-end
+    mul-part-2
+    sub-part-2
+    part-part-start-2
+    part-part-end-2
+    part-requires
+    add-done
     loop-less
     loop-again
     same-length

@@ -1,124 +1,120 @@
--- `stages::up2_hq::silk_resampler_private_up2_HQ` meets its contract: at each turn the outputs written, followed by what the
--- definition makes of the samples left, are the whole.
+-- `stages::up2_hq::silk_resampler_private_up2_HQ` meets its contract: what is made of parts, one behind the other, is what is made of the
+-- whole.
 -- Assumes nothing.
-use Prim.Native.Nat.{ℕ, _+_, _*_, _-_, _≤_, _<_}
-use mathlib.Core.Path.{_≡_, _∙_, ap}
-use mathlib.Core.List.{List, [], _∷_}
+use mathlib.Core.Path.{_≡_}
+use mathlib.Core.List.{List}
+use Prim.Native.Nat.{ℕ, _+_, _*_, _-_, _<_, _≤_, min}
 use native.Mathlib.Omega.{arith}
 use borrow.Author.Needs.{needs}
 use denote.Ref.{now}
-use lib.IntN.{ℤ, pos}
-use lib.ListN.{length, drop, length-set}
-use mir.Syntax.{w16}
-use Rattle.stages.specs.Lists.{joined, _!_}
-use Rattle.stages.specs.Run.{run}
-use Rattle.stages.specs.Stage.Up2Hq.{up2Out, up2Next, up2, up2End}
-use Rattle.fixed.proofs.Laws.Fit.{at, back}
-use Rattle.stages.proofs.Laws.Lengths.{up2Next-length, up2-length}
-use Rattle.stages.proofs.Laws.Lists.{drop-next, drop-none}
-use Rattle.stages.proofs.Laws.Loop.{Doubling, double-start, double-room, double-turn, double-end}
+use lib.IntN.{ℤ}
+use lib.ListN.{length, drop, length-take, length-drop}
+use Rattle.stages.specs.Stage.Up2Hq.{up2, up2End}
+use Rattle.stages.proofs.Laws.Lengths.{up2-length, up2End-length}
+use Rattle.stages.proofs.Laws.Pass.{Passing, part-length, pass-room, pass-turn, whole-start, whole-end}
+use Rattle.stages.proofs.Laws.Parts.{up2-nothing, up2-parts}
 use Rattle.stages.proofs.up2_hq.silk_resampler_private_up2_HQ.Statement.{statement}
 use Rattle.stages.proofs.up2_hq.silk_resampler_private_up2_HQ.Tie as tie
 
 abbrev Inv-loop : tie.InvT-loop
-Inv-loop out₀ input s₀ k₀ out s k =
-    (k ≤ length input) × (length (s .w) ≡ 6)
-    × Doubling up2Out up2Next (s₀ .w) input out₀ (2 * k) out (s .w) (drop k input)
+Inv-loop out₀ input s₀ done₀ at₀ out s done at =
+    (length (s .w) ≡ 6) × Passing up2 up2End 160 input out₀ (s₀ .w) at done out (s .w)
 
 abbrev μ-loop : tie.MeasureT-loop
-μ-loop out₀ input s₀ k₀ out s k = length input - k
+μ-loop out₀ input s₀ done₀ at₀ out s done at = length input - at
 
-room : (w xs o : List ℤ) → 2 * length xs ≤ length o → length (joined (run up2Out up2Next w xs)) ≤ length o
-unfolding up2
-room w xs o h = omega (arith, up2-length w xs)
+some : 0 < 160
+some = omega arith
 
--- the sample of a turn, the two outputs made of it, and that there is room for them
-module _ (c : tie.After-struct-told2 Inv-loop μ-loop) where
-  abbrev turn : tie.In-loop Inv-loop μ-loop
-  turn = c .before .before .before .before
+-- a turn: how many samples it takes, and that what it makes of them has room
+module _ (c : tie.After-least Inv-loop μ-loop) where
+  abbrev l : tie.At-loop Inv-loop μ-loop
+  l = c .before .before
 
-  abbrev x : ℤ
-  x = now (turn .before .before .args .input) ! turn .before .loop .k
+  count : c .least .result ≡ min (length (now (l .before .args .input)) - l .loop .at) 160
+  count = omega arith
 
-  abbrev k : ℕ
-  k = turn .before .loop .k
-
-  sample : at w16 x ≡ x
-  sample = back w16 x (c .before .before .before .step-arg .given)
-
-  made : at w16 (c .before .before .step .result .even) ∷ at w16 (c .before .before .step .result .odd) ∷ [] ≡ up2Out (turn .before .loop .s .w) x
-  made =
-      let d = c .before .before .step .result in
-      let even = back w16 (d .even) (c .before .struct-told .given .0 .1) in
-      let odd = back w16 (d .odd) (c .before .struct-told .given .1 .0 .1) in
-      (λ i. even i ∷ odd i ∷ []) ∙ c .before .before .step .ensures .0 ∙ ap (up2Out (turn .before .loop .s .w)) sample
-
-  first : drop k (now (turn .before .before .args .input)) ≡ x ∷ drop (k + 1) (now (turn .before .before .args .input))
-  first = drop-next (now (turn .before .before .args .input)) k (pos 0) (turn .loop-test .taken)
-
-  enough : 2 * k + 1 < length (turn .before .loop .out)
-  enough = double-room _ _ _ _ _ first made (turn .before .loop .inv .2)
+  room : l .loop .done + 2 * c .least .result ≤ length (l .loop .out)
+  room = pass-room _ _ _ _ _ _ some _ count (c .before .loop-test .taken) (l .loop .inv .1) (λ n. 2 * n) up2-length
 
 loop-holds : tie.Need-loop-holds Inv-loop μ-loop
 loop-holds c =
     let a = c .args in
-    (omega arith, c .pre .0, double-start up2Out up2Next (a .state) (now (a .input)) (now (a .out)) (room (a .state) (now (a .input)) (now (a .out)) (c .pre .1)))
+    let xs = now (a .input) in
+    (c .pre .0, whole-start up2 up2End 160 some up2-nothing (up2-parts 160) (a .state) xs (omega (arith, c .pre .1, up2-length (a .state) xs)))
 
-mul-step : tie.Need-mul-step Inv-loop μ-loop
-mul-step c = search needs
+sub-least : tie.Need-sub-least Inv-loop μ-loop
+sub-least c = search needs
 
-shared-slice-copy-out-step : tie.Need-shared-slice-copy-out-step Inv-loop μ-loop
-shared-slice-copy-out-step c = search needs
+least-requires : tie.Need-least-requires Inv-loop μ-loop
+least-requires c κs = search needs
 
-step-requires : tie.Need-step-requires Inv-loop μ-loop
-step-requires c κs = search needs
+add-e : tie.Need-add-e Inv-loop μ-loop
+add-e c = search needs
 
-mul-j : tie.Need-mul-j Inv-loop μ-loop
-mul-j c = search needs
+mul-part : tie.Need-mul-part Inv-loop μ-loop
+mul-part c = search needs
 
-mul-even : tie.Need-mul-even Inv-loop μ-loop
-mul-even c = search needs
+sub-part : tie.Need-sub-part Inv-loop μ-loop
+sub-part c = search needs
 
-slice-set-from-even : tie.Need-slice-set-from-even Inv-loop μ-loop
-slice-set-from-even c = let r = enough c in omega arith
+part-part-start : tie.Need-part-part-start Inv-loop μ-loop
+part-part-start c = search needs
 
-add-odd : tie.Need-add-odd Inv-loop μ-loop
-add-odd c = search needs
+part-part-end : tie.Need-part-part-end Inv-loop μ-loop
+part-part-end c = search needs
 
-mul-odd : tie.Need-mul-odd Inv-loop μ-loop
-mul-odd c = search needs
+mul-part-2 : tie.Need-mul-part-2 Inv-loop μ-loop
+mul-part-2 c = search needs
 
-slice-set-from-odd : tie.Need-slice-set-from-odd Inv-loop μ-loop
-slice-set-from-odd c = let r = enough c in simp length-set (omega arith)
+sub-part-2 : tie.Need-sub-part-2 Inv-loop μ-loop
+sub-part-2 c = search needs
 
-add-k : tie.Need-add-k Inv-loop μ-loop
-add-k c = search needs
+part-part-start-2 : tie.Need-part-part-start-2 Inv-loop μ-loop
+part-part-start-2 c = search needs
+
+part-part-end-2 : tie.Need-part-part-end-2 Inv-loop μ-loop
+part-part-end-2 c = search needs
+
+part-requires : tie.Need-part-requires Inv-loop μ-loop
+part-requires c κs =
+    let n = c .before .before .before in
+    let k = l n .loop in
+    let taken = part-length _ _ _ _ _ _ some _ (count n) (n .before .loop-test .taken) (k .inv .1) in (
+      k .inv .0,
+      omega (arith, taken, count n),
+      omega (arith, taken, room n, length-take (length (k .out) - k .done) (drop (k .done) (k .out)), length-drop (k .done) (k .out)),
+    )
+
+mul-done : tie.Need-mul-done Inv-loop μ-loop
+mul-done c =
+    let n = c .before .before .before .before .before in
+    record { fits = omega (arith, room n, l n .loop .inv .1 .filling .len, l n .before .good) }
+
+add-done : tie.Need-add-done Inv-loop μ-loop
+add-done c =
+    let n = c .before .before .before .before .before in
+    record { fits = omega (arith, room n, l n .loop .inv .1 .filling .len, l n .before .good) }
 
 loop-less : tie.Need-loop-less Inv-loop μ-loop
 loop-less c = search needs
 
 loop-again : tie.Need-loop-again Inv-loop μ-loop
 loop-again c =
-    let p = c .before in
-    let d = p .before .before in
-    let t = d .before .before in
-    let l = t .before .loop in
-    let words = d .step .ensures .1 ∙ ap (up2Next (l .s .w)) (sample p) in
-    let e : 2 * (l .k + 1) ≡ 2 * l .k + 1 + 1 = omega arith in (
-      omega arith,
-      rw words (up2Next-length (l .s .w) (now (t .before .before .args .input) ! l .k) (l .inv .1)),
-      rw e (double-turn _ _ _ _ _ (first p) (made p) (l .inv .2) words),
+    let p = c .before .part .ensures in
+    let n = c .before .before .before .before .before in
+    let k = l n .loop in (
+      rw (p .carried) (up2End-length (k .s .w) _ (k .inv .0)),
+      pass-turn _ _ _ _ _ _ some _ (count n) (n .before .loop-test .taken) (k .inv .1) (λ n. 2 * n) up2-length (p .filled) (p .carried),
     )
 
 same-length : tie.Need-same-length Inv-loop μ-loop
-same-length c = c .before .before .loop .inv .2 .filling .len
+same-length c = c .before .before .loop .inv .1 .filling .len
 
 returns : tie.Need-returns Inv-loop μ-loop
-unfolding up2 up2End
 returns c =
-    let l = c .before .before .loop in
-    let (filled, words) = double-end _ _ _ _ _ (drop-none _ _ (c .before .loop-test .left)) (l .inv .2) in
-    record { filled = filled; carried = words }
+    let (filled, carried) = whole-end up2 up2End 160 some up2-nothing (up2-parts 160) (c .before .loop-test .left) (c .before .before .loop .inv .1) in
+    record { filled = filled; carried = carried }
 
 pub silk-resampler-private-up2-HQ-spec : {M : Type 1} → statement M
 silk-resampler-private-up2-HQ-spec =
@@ -127,16 +123,20 @@ silk-resampler-private-up2-HQ-spec =
     Inv-loop
     μ-loop
     loop-holds
-    mul-step
-    shared-slice-copy-out-step
-    step-requires
-    mul-j
-    mul-even
-    slice-set-from-even
-    add-odd
-    mul-odd
-    slice-set-from-odd
-    add-k
+    sub-least
+    least-requires
+    add-e
+    mul-part
+    sub-part
+    part-part-start
+    part-part-end
+    mul-part-2
+    sub-part-2
+    part-part-start-2
+    part-part-end-2
+    part-requires
+    mul-done
+    add-done
     loop-less
     loop-again
     same-length

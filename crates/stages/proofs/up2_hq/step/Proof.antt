@@ -8,9 +8,8 @@ use lib.ListN.{take, drop, length-drop}
 use lib.Seq.{take-all}
 use mir.Syntax.{w16, w32}
 use Rattle.stages.specs.Rom.{silk-resampler-up2-hq-0, silk-resampler-up2-hq-1}
-use Rattle.fixed.specs.Fixed.{narrowed}
 use Rattle.stages.specs.Section.{scaled, rowOut, rowNext}
-use Rattle.stages.specs.Stage.Up2Hq.{up2Out, up2Even, up2Odd, up2Next}
+use Rattle.stages.specs.Stage.Up2Hq.{up2Raw, up2Even, up2Odd, up2Next}
 use Rattle.fixed.proofs.Laws.Fit.{at, back}
 use Rattle.stages.proofs.up2_hq.step.Statement.{statement}
 use Rattle.stages.proofs.up2_hq.step.Tie as tie
@@ -24,19 +23,11 @@ three-requires c κs = search needs
 three-requires-2 : tie.Need-three-requires-2
 three-requires-2 c κs = search needs
 
-narrow-requires : tie.Need-narrow-requires
-narrow-requires c κs = search needs
-
-narrow-requires-2 : tie.Need-narrow-requires-2
-narrow-requires-2 c κs = search needs
-
 returns : tie.Need-returns
-unfolding up2Out up2Even up2Odd up2Next silk-resampler-up2-hq-0 silk-resampler-up2-hq-1
+unfolding up2Raw up2Even up2Odd up2Next silk-resampler-up2-hq-0 silk-resampler-up2-hq-1
 returns c =
-    let n2 = c .before .before in
-    let told2 = n2 .before in
-    let n1 = told2 .before in
-    let told1 = n1 .before in
+    let told2 = c .before .before in
+    let told1 = told2 .before in
     let odd = told1 .before in
     let even = odd .before in
     let scaling = even .before in
@@ -52,8 +43,6 @@ returns c =
     let all : take 3 (drop 3 w) ≡ drop 3 w = take-all 3 (drop 3 w) (omega (arith, length-drop 3 w)) in
     let even-out = back w32 (e .out) (ge .0 .1) ∙ even .three .ensures .0 ∙ (λ i. rowOut silk-resampler-up2-hq-0 (take 3 w) (y i)) in
     let odd-out = back w32 (o .out) (go .0 .1) ∙ odd .three2 .ensures .0 ∙ (λ i. rowOut silk-resampler-up2-hq-1 (all i) (y i)) in
-    let even-narrowed = back w16 (n1 .narrow .result) (n1 .narrow .ok) ∙ n1 .narrow .ensures ∙ ap (narrowed 10) even-out in
-    let odd-narrowed = back w16 (n2 .narrow2 .result) (n2 .narrow2 .ok) ∙ n2 .narrow2 .ensures ∙ ap (narrowed 10) odd-out in
     let even-words = even .three .ensures .1 ∙ (λ i. rowNext silk-resampler-up2-hq-0 (take 3 w) (y i)) in
     let odd-words = odd .three2 .ensures .1 ∙ (λ i. rowNext silk-resampler-up2-hq-1 (all i) (y i)) in
     let e0 = back w32 (e .s0) (ge .1 .0 .1) in
@@ -62,17 +51,10 @@ returns c =
     let o0 = back w32 (o .s0) (go .1 .0 .1) in
     let o1 = back w32 (o .s1) (go .1 .1 .0 .1) in
     let o2 = back w32 (o .s2) (go .1 .1 .1 .0 .1) in (
-      λ i. even-narrowed i ∷ odd-narrowed i ∷ [],
+      λ i. even-out i ∷ odd-out i ∷ [],
       (λ i. e0 i ∷ e1 i ∷ e2 i ∷ o0 i ∷ o1 i ∷ o2 i ∷ []) ∙ (λ i. even-words i ++ odd-words i),
     )
 
 pub step-spec : {M : Type 1} → statement M
 step-spec =
-    tie.close
-    (tie.spec
-    scale-requires
-    three-requires
-    three-requires-2
-    narrow-requires
-    narrow-requires-2
-    returns)
+    tie.close (tie.spec scale-requires three-requires three-requires-2 returns)
