@@ -8,14 +8,14 @@ use crate::rom;
 use crate::taps;
 ghost use mathlib.Core.Path.{_≡_};
 ghost use mathlib.Core.List.{[], _∷_};
-ghost use Prim.Native.Nat.{_*_, _/_, _%_, _≤_};
+ghost use Prim.Native.Nat.{_*_, _/_, _%_, _<_, _≤_};
 ghost use lib.ListN.{length};
 ghost use Rattle.stages.specs.Lists.{_!_};
 ghost use Rattle.fixed.specs.Fixed.{narrowed};
 ghost use Rattle.stages.specs.Rom.{silk-Resampler-2-3-COEFS-LQ};
 ghost use Rattle.stages.specs.Outcome.{Staged, outcome};
 ghost use Rattle.stages.specs.Stage.Ar2.{ar2, ar2End};
-ghost use Rattle.stages.specs.Stage.Down2_3.{firstTaps, secondTaps, tapped, down23, down23End};
+ghost use Rattle.stages.specs.Stage.Down2_3.{tapped, down23, down23End};
 ghost use Rattle.stages.specs.Entry.{down23Row, down23Outcome};
 
 // What a call answers, and the words after it.
@@ -65,44 +65,47 @@ fn filtered_three(s: ar2::Words, x: i16, y: i16, z: i16, t: &[i16]) -> Three
     }
 }
 
-// Four taps and their samples.
-fn four(c0: i16, y0: i32, c1: i16, y1: i32, c2: i16, y2: i32, c3: i16, y3: i32) -> i16
-    ensures { λ r. ⌜ r ≡ narrowed 6 (tapped (c0 ∷ c1 ∷ c2 ∷ c3 ∷ []) (y0 ∷ y1 ∷ y2 ∷ y3 ∷ [])) ⌝ }
+// The taps at four places, each with its sample.
+fn four(
+    t: &[i16; 6],
+    c0: usize,
+    c1: usize,
+    c2: usize,
+    c3: usize,
+    y0: i32,
+    y1: i32,
+    y2: i32,
+    y3: i32,
+) -> i16
+    requires { ⌜ (c0 < 6) × (c1 < 6) × (c2 < 6) × (c3 < 6) ⌝ }
+    ensures { λ r. ⌜ r ≡ narrowed 6 (tapped (now (t .entry) ! c0 ∷ now (t .entry) ! c1 ∷ now (t .entry) ! c2 ∷ now (t .entry) ! c3 ∷ []) (y0 ∷ y1 ∷ y2 ∷ y3 ∷ [])) ⌝ }
 {
-    fixed::narrow(taps::tap(taps::three(0, c0, y0, c1, y1, c2, y2), c3, y3), 6)
+    fixed::narrow(
+        taps::tap(taps::three(0, t, c0, c1, c2, y0, y1, y2), t[c3], y3),
+        6,
+    )
 }
 
 // The first output of a group is read from its start, the second from one sample later.
-fn first_of(s: Words, t: &[i16; 6]) -> i16
-    requires { ⌜ (length (s .w) ≡ 6) × (now t ≡ silk-Resampler-2-3-COEFS-LQ) ⌝ }
-    ensures { λ r. ⌜ r ≡ narrowed 6 (tapped firstTaps (s .w)) ⌝ }
-{
-    four(t[2], s.w[0], t[3], s.w[1], t[5], s.w[2], t[4], s.w[3])
-}
-
-fn second_of(s: Words, y: i32, t: &[i16; 6]) -> i16
-    requires { ⌜ (length (s .w) ≡ 6) × (now t ≡ silk-Resampler-2-3-COEFS-LQ) ⌝ }
-    ensures { λ r. ⌜ r ≡ narrowed 6 (tapped secondTaps (s .w ! 1 ∷ s .w ! 2 ∷ s .w ! 3 ∷ y ∷ [])) ⌝ }
-{
-    four(t[4], s.w[1], t[5], s.w[2], t[3], s.w[3], t[2], y)
-}
-
 fn group_of(s: Words, x: i16, y: i16, z: i16, t: &[i16; 6]) -> Group
     requires { ⌜ (length (s .w) ≡ 6) × (now t ≡ silk-Resampler-2-3-COEFS-LQ) ⌝ }
     ensures { λ r. ⌜ r .first ∷ r .second ∷ [] ≡ down23 (s .w) (x ∷ y ∷ z ∷ []) ⌝ }
     ensures { λ r. ⌜ r .words .w ≡ down23End (s .w) (x ∷ y ∷ z ∷ []) ⌝ }
 {
+    let w1 = s.w[1];
+    let w2 = s.w[2];
+    let w3 = s.w[3];
     let a = ar2::Words {
         w: [s.w[4], s.w[5]],
     };
     let f = filtered_three(a, x, y, z, t);
-    let first = first_of(s, t);
-    let second = second_of(s, f.y0, t);
+    let first = four(t, 2, 3, 5, 4, s.w[0], w1, w2, w3);
+    let second = four(t, 4, 5, 3, 2, w1, w2, w3, f.y0);
     Group {
         first,
         second,
         words: Words {
-            w: [s.w[3], f.y0, f.y1, f.y2, f.s0, f.s1],
+            w: [w3, f.y0, f.y1, f.y2, f.s0, f.s1],
         },
     }
 }

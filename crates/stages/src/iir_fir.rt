@@ -7,11 +7,12 @@ use crate::rom;
 use crate::up2_hq;
 use crate::words;
 ghost use mathlib.Core.Path.{_≡_};
-ghost use mathlib.Core.List.{[], _∷_, _++_, reverse};
+ghost use mathlib.Core.List.{[], _∷_, _++_};
 ghost use Prim.Native.Nat.{_+_, _*_, _-_, _/_, _%_, _<_, _≤_};
 ghost use lib.IntN.{_+ℤ_, _*ℤ_};
 ghost use lib.ListN.{length, drop};
 ghost use Rattle.fixed.specs.Fixed.{wrapped};
+ghost use Rattle.stages.specs.Lists.{_!_};
 ghost use Rattle.stages.specs.Rom.{silk-resampler-frac-FIR-12};
 ghost use Rattle.stages.specs.Reader.{read as reading, outputs, Steady, sum};
 ghost use Rattle.stages.specs.Outcome.{over, Staged};
@@ -25,30 +26,12 @@ fn tap(acc: i32, c: i16, x: i16) -> i32
     fixed::add(acc, (c as i32) * (x as i32))
 }
 
-// Four taps and four samples from `at` on.
-fn four(acc: i32, c0: i16, c1: i16, c2: i16, c3: i16, xs: &[i16], at: usize) -> i32
-    requires { ⌜ at + 4 ≤ length (now xs) ⌝ }
-    ensures { λ r. ⌜ r ≡ sum _*ℤ_ acc (c0 ∷ c1 ∷ c2 ∷ c3 ∷ []) (drop at (now (xs .entry))) ⌝ }
+// The taps of a row at two places, with the samples from `at` on.
+fn two(acc: i32, row: [i16; 4], c0: usize, c1: usize, xs: &[i16], at: usize) -> i32
+    requires { ⌜ (length row ≡ 4) × (c0 < 4) × (c1 < 4) × (at + 2 ≤ length (now xs)) ⌝ }
+    ensures { λ r. ⌜ r ≡ sum _*ℤ_ acc (row ! c0 ∷ row ! c1 ∷ []) (drop at (now (xs .entry))) ⌝ }
 {
-    let a = tap(acc, c0, xs[at]);
-    let b = tap(a, c1, xs[at + 1]);
-    let c = tap(b, c2, xs[at + 2]);
-    tap(c, c3, xs[at + 3])
-}
-
-// A row forward, and backward.
-fn forward(acc: i32, row: [i16; 4], xs: &[i16], at: usize) -> i32
-    requires { ⌜ (length row ≡ 4) × (at + 4 ≤ length (now xs)) ⌝ }
-    ensures { λ r. ⌜ r ≡ sum _*ℤ_ acc row (drop at (now (xs .entry))) ⌝ }
-{
-    four(acc, row[0], row[1], row[2], row[3], xs, at)
-}
-
-fn backward(acc: i32, row: [i16; 4], xs: &[i16], at: usize) -> i32
-    requires { ⌜ (length row ≡ 4) × (at + 4 ≤ length (now xs)) ⌝ }
-    ensures { λ r. ⌜ r ≡ sum _*ℤ_ acc (reverse row) (drop at (now (xs .entry))) ⌝ }
-{
-    four(acc, row[3], row[2], row[1], row[0], xs, at)
+    tap(tap(acc, row[c0], xs[at]), row[c1], xs[at + 1])
 }
 
 // One output: the fraction's row forward for samples 0 to 3, its mirror backward for 4 to 7.
@@ -59,8 +42,10 @@ fn output(t: &[[i16; 4]; 12], fraction: usize, xs: &[i16]) -> i16
     let k = fraction * 12 / 65536;
     let row = t[k];
     let mirror = t[11 - k];
-    let front = forward(0, row, xs, 0);
-    let res_Q15 = backward(front, mirror, xs, 4);
+    let a = two(0, row, 0, 1, xs, 0);
+    let b = two(a, row, 2, 3, xs, 2);
+    let c = two(b, mirror, 3, 2, xs, 4);
+    let res_Q15 = two(c, mirror, 1, 0, xs, 6);
     fixed::narrow(res_Q15, 15)
 }
 

@@ -17,43 +17,29 @@ pub fn tap(acc: i32, c: i16, y: i32) -> i32
     fixed::add(acc, fixed::mul_i16(c, y))
 }
 
-// Three products more.
-pub fn three(acc: i32, c0: i16, y0: i32, c1: i16, y1: i32, c2: i16, y2: i32) -> i32
-    ensures { λ r. ⌜ r ≡ sum times acc (c0 ∷ c1 ∷ c2 ∷ []) (y0 ∷ y1 ∷ y2 ∷ []) ⌝ }
+// Three products more: the taps at three places, each with its sample.
+pub fn three(
+    acc: i32,
+    cs: &[i16],
+    c0: usize,
+    c1: usize,
+    c2: usize,
+    y0: i32,
+    y1: i32,
+    y2: i32,
+) -> i32
+    requires { ⌜ (c0 < length (now cs)) × (c1 < length (now cs)) × (c2 < length (now cs)) ⌝ }
+    ensures { λ r. ⌜ r ≡ sum times acc (now (cs .entry) ! c0 ∷ now (cs .entry) ! c1 ∷ now (cs .entry) ! c2 ∷ []) (y0 ∷ y1 ∷ y2 ∷ []) ⌝ }
 {
-    tap(tap(tap(acc, c0, y0), c1, y1), c2, y2)
+    tap(tap(tap(acc, cs[c0], y0), cs[c1], y1), cs[c2], y2)
 }
 
-// The taps from c on with the samples from `at` on.
-fn forward(acc: i32, cs: &[i16], c: usize, ys: &[i32], at: usize) -> i32
-    requires { ⌜ (c + 3 ≤ length (now cs)) × (at + 3 ≤ length (now ys)) ⌝ }
-    ensures { λ r. ⌜ r ≡ sum times acc (take 3 (drop c (now (cs .entry)))) (drop at (now (ys .entry))) ⌝ }
+// The same with the samples from `at` on.
+fn group(acc: i32, cs: &[i16], c0: usize, c1: usize, c2: usize, ys: &[i32], at: usize) -> i32
+    requires { ⌜ (c0 < length (now cs)) × (c1 < length (now cs)) × (c2 < length (now cs)) × (at + 3 ≤ length (now ys)) ⌝ }
+    ensures { λ r. ⌜ r ≡ sum times acc (now (cs .entry) ! c0 ∷ now (cs .entry) ! c1 ∷ now (cs .entry) ! c2 ∷ []) (drop at (now (ys .entry))) ⌝ }
 {
-    three(
-        acc,
-        cs[c],
-        ys[at],
-        cs[c + 1],
-        ys[at + 1],
-        cs[c + 2],
-        ys[at + 2],
-    )
-}
-
-// The same taps backward.
-fn backward(acc: i32, cs: &[i16], c: usize, ys: &[i32], at: usize) -> i32
-    requires { ⌜ (c + 3 ≤ length (now cs)) × (at + 3 ≤ length (now ys)) ⌝ }
-    ensures { λ r. ⌜ r ≡ sum times acc (reverse (take 3 (drop c (now (cs .entry))))) (drop at (now (ys .entry))) ⌝ }
-{
-    three(
-        acc,
-        cs[c + 2],
-        ys[at],
-        cs[c + 1],
-        ys[at + 1],
-        cs[c],
-        ys[at + 2],
-    )
+    three(acc, cs, c0, c1, c2, ys[at], ys[at + 1], ys[at + 2])
 }
 
 // Sample k of `order` with its counterpart from the end.
@@ -72,7 +58,7 @@ fn inward(acc: i32, cs: &[i16], c: usize, ys: &[i32], order: usize, k: usize) ->
     let y0 = outer(ys, order, k);
     let y1 = outer(ys, order, k + 1);
     let y2 = outer(ys, order, k + 2);
-    three(acc, cs[c], y0, cs[c + 1], y1, cs[c + 2], y2)
+    three(acc, cs, c, c + 1, c + 2, y0, y1, y2)
 }
 
 // Nine taps from c on, forward.
@@ -80,9 +66,9 @@ pub fn nine_forward(acc: i32, cs: &[i16], c: usize, ys: &[i32]) -> i32
     requires { ⌜ (c + 9 ≤ length (now cs)) × (9 ≤ length (now ys)) ⌝ }
     ensures { λ r. ⌜ r ≡ sum times acc (take 9 (drop c (now (cs .entry)))) (now (ys .entry)) ⌝ }
 {
-    let a = forward(acc, cs, c, ys, 0);
-    let b = forward(a, cs, c + 3, ys, 3);
-    forward(b, cs, c + 6, ys, 6)
+    let a = group(acc, cs, c, c + 1, c + 2, ys, 0);
+    let b = group(a, cs, c + 3, c + 4, c + 5, ys, 3);
+    group(b, cs, c + 6, c + 7, c + 8, ys, 6)
 }
 
 // Nine taps from c on, backward, with the samples from nine on.
@@ -90,9 +76,9 @@ pub fn nine_backward(acc: i32, cs: &[i16], c: usize, ys: &[i32]) -> i32
     requires { ⌜ (c + 9 ≤ length (now cs)) × (18 ≤ length (now ys)) ⌝ }
     ensures { λ r. ⌜ r ≡ sum times acc (reverse (take 9 (drop c (now (cs .entry))))) (drop 9 (now (ys .entry))) ⌝ }
 {
-    let a = backward(acc, cs, c + 6, ys, 9);
-    let b = backward(a, cs, c + 3, ys, 12);
-    backward(b, cs, c, ys, 15)
+    let a = group(acc, cs, c + 8, c + 7, c + 6, ys, 9);
+    let b = group(a, cs, c + 5, c + 4, c + 3, ys, 12);
+    group(b, cs, c + 2, c + 1, c, ys, 15)
 }
 
 // Half as many taps as the order, from c on, with the sums of outer samples.

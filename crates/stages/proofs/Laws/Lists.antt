@@ -29,12 +29,26 @@ drop-none xs k h = drop-of-length-le xs h
 pub part-rest : {A : Type 0} (xs : List A) (at : ℕ) → take (length xs - at) (drop at xs) ≡ drop at xs
 part-rest xs at = take-all (length xs - at) (drop at xs) (omega (arith, length-drop at xs))
 
--- three in a row
+-- a few in a row, written out
+take-each : (n at : ℕ) (xs : List ℤ) → at + n ≤ length xs → take n (drop at xs) ≡ tabulate at n (λ j. xs ! j)
+unfolding tabulate
+take-each zero at xs h = refl
+take-each (suc n) at xs h = rw (drop-next xs at (pos 0) (omega arith)) (ap (λ (t : List ℤ). xs ! at ∷ t) (take-each n (at + 1) xs (omega arith)))
+
+pub take-two : (xs : List ℤ) (at : ℕ) → at + 2 ≤ length xs → take 2 (drop at xs) ≡ xs ! at ∷ xs ! (at + 1) ∷ []
+unfolding tabulate
+take-two xs at h = take-each 2 at xs h
+
 pub take-three : (xs : List ℤ) (at : ℕ) → at + 3 ≤ length xs → take 3 (drop at xs) ≡ xs ! at ∷ xs ! (at + 1) ∷ xs ! (at + 2) ∷ []
-take-three xs at h =
-    let e : at + 1 ≡ suc at = omega arith in
-    let f : at + 2 ≡ suc (suc at) = omega arith in
-    rw (drop-cons xs at (pos 0) (omega arith), drop-cons xs (suc at) (pos 0) (omega arith), drop-cons xs (suc (suc at)) (pos 0) (omega arith), e, f)
+unfolding tabulate
+take-three xs at h = let e : at + 1 + 1 ≡ at + 2 = omega arith in take-each 3 at xs h ∙ rw e refl
+
+pub take-nine : (xs : List ℤ) (at : ℕ) → at + 9 ≤ length xs → take 9 (drop at xs)
+    ≡ xs ! at ∷ xs ! (at + 1) ∷ xs ! (at + 2) ∷ xs ! (at + 3) ∷ xs ! (at + 4) ∷ xs ! (at + 5) ∷ xs ! (at + 6) ∷ xs ! (at + 7) ∷ xs ! (at + 8) ∷ []
+take-nine xs at h =
+    let six : at + 3 + 6 ≤ length xs = omega arith in
+    let more : (k m : ℕ) → at + k + m ≡ at + (k + m) = λ k m. omega arith in
+    take-add 3 6 (drop at xs) ∙ rw (drop-drop 3 at xs, take-add 3 3 (drop (at + 3) xs), drop-drop 3 (at + 3) xs, take-three xs at (omega arith), take-three xs (at + 3) (omega arith), take-three xs (at + 3 + 3) (omega arith), more 3 1, more 3 2, more 3 3, more 6 1, more 6 2)
 
 pub all-two : (xs : List ℤ) → length xs ≡ 2 → xs ≡ xs ! 0 ∷ xs ! 1 ∷ []
 all-two [] h = absurd (omega arith)

@@ -1,23 +1,38 @@
 -- `stages::iir_fir::output` meets its contract: the row and its mirror are the definition's.
 -- Assumes nothing.
-use mathlib.Core.Path.{sym, _∙_, ap}
-use mathlib.Core.List.{[], reverse}
-use Prim.Native.Nat.{_*_, _-_, _/_}
+use mathlib.Core.Path.{_≡_, sym, _∙_, ap}
+use mathlib.Core.List.{List, [], _++_, reverse}
+use Prim.Native.Nat.{ℕ, _*_, _-_, _/_}
 use native.Mathlib.Omega.{arith}
 use borrow.Author.Needs.{needs}
 use denote.Ref.{now}
-use lib.IntN.{pos, _*ℤ_}
-use lib.ListN.{drop, getD}
+use lib.IntN.{ℤ, pos, _*ℤ_}
+use lib.ListN.{length, getD}
 use mir.Syntax.{w16, w32}
 use Rattle.fixed.specs.Fixed.{narrowed}
+use Rattle.stages.specs.Lists.{_!_}
 use Rattle.stages.specs.Rom.{silk-resampler-frac-FIR-12}
 use Rattle.stages.specs.Reader.{sum}
 use Rattle.stages.specs.Stage.IirFir.{interpolated, interpolation}
 use Rattle.fixed.proofs.Laws.Fit.{back}
-use Rattle.stages.proofs.Laws.Dot.{sum-parts}
+use Rattle.stages.proofs.Laws.Lists.{all-four}
+use Rattle.stages.proofs.Laws.Dot.{eight-taps}
 use Rattle.stages.proofs.Laws.Taps.{row-below, frac-width, frac-mirrored}
 use Rattle.stages.proofs.iir_fir.output.Statement.{statement}
 use Rattle.stages.proofs.iir_fir.output.Tie as tie
+
+module _ (s : tie.Start) where
+  abbrev row : ℕ
+  row = s .args .fraction * 12 / 65536
+
+  abbrev at : ℕ → List ℤ
+  at k = getD (now (s .args .t)) k []
+
+  front-width : length (at row) ≡ 4
+  front-width = rw (s .pre .0) (frac-width row (row-below 12 (s .args .fraction) (s .pre .1) (omega arith)))
+
+  back-width : length (at (11 - row)) ≡ 4
+  back-width = rw (s .pre .0) (frac-width (11 - row) (omega arith))
 
 mul-k : tie.Need-mul-k
 mul-k c = search needs
@@ -37,15 +52,17 @@ mul-mirror c = search needs
 element-copy-out-mirror : tie.Need-element-copy-out-mirror
 element-copy-out-mirror c = search needs
 
-forward-requires : tie.Need-forward-requires
-forward-requires c κs =
-    let s = c .before .before in
-    (rw (s .pre .0) (frac-width _ (row-below 12 (s .args .fraction) (s .pre .1) (omega arith))), omega arith)
+two-requires : tie.Need-two-requires
+two-requires c κs = let s = c .before .before in (front-width s, omega arith, omega arith, omega (arith, s .pre .2))
 
-backward-requires : tie.Need-backward-requires
-backward-requires c κs =
-    let s = c .before .before .before in
-    (rw (s .pre .0) (frac-width _ (omega arith)), omega arith)
+two-requires-2 : tie.Need-two-requires-2
+two-requires-2 c κs = let s = c .before .before .before in (front-width s, omega arith, omega arith, omega (arith, s .pre .2))
+
+two-requires-3 : tie.Need-two-requires-3
+two-requires-3 c κs = let s = c .before .before .before .before in (back-width s, omega arith, omega arith, omega (arith, s .pre .2))
+
+two-requires-4 : tie.Need-two-requires-4
+two-requires-4 c κs = let s = c .before .before .before .before .before in (back-width s, omega arith, omega arith, omega (arith, s .pre .2))
 
 narrow-requires : tie.Need-narrow-requires
 narrow-requires c κs = search needs
@@ -53,17 +70,23 @@ narrow-requires c κs = search needs
 returns : tie.Need-returns
 unfolding interpolated interpolation
 returns c =
-    let b = c .before in
-    let f = b .before in
-    let s = f .before .before .before in
-    let k = s .args .fraction * 12 / 65536 in
+    let t4 = c .before in
+    let t3 = t4 .before in
+    let t2 = t3 .before in
+    let t1 = t2 .before in
+    let s = t1 .before .before .before in
     let xs = now (s .args .xs) in
-    let T = silk-resampler-frac-FIR-12 in
-    let t = s .pre .0 in
-    let front = back w32 (f .forward .result) (f .forward .ok) ∙ f .forward .ensures ∙ (λ i. sum _*ℤ_ (pos 0) (getD (t i) k []) xs) in
-    let all = back w32 (b .backward .result) (b .backward .ok) ∙ b .backward .ensures
-    ∙ (λ i. sum _*ℤ_ (front i) (reverse (getD (t i) (11 - k) [])) (drop 4 xs))
-    ∙ sum-parts _*ℤ_ (pos 0) (getD T k []) (reverse (getD T (11 - k) [])) xs 4 (frac-width k (row-below 12 (s .args .fraction) (s .pre .1) (omega arith))) (omega arith)
+    let k = row s in
+    let r = at s k in
+    let m = at s (11 - k) in
+    let table = s .pre .0 in
+    let r1 = back w32 (t1 .two .result) (t1 .two .ok) ∙ t1 .two .ensures in
+    let r2 = back w32 (t2 .two2 .result) (t2 .two2 .ok) ∙ t2 .two2 .ensures in
+    let r3 = back w32 (t3 .two3 .result) (t3 .two3 .ok) ∙ t3 .two3 .ensures in
+    let r4 = back w32 (t4 .two4 .result) (t4 .two4 .ok) ∙ t4 .two4 .ensures in
+    let all = eight-taps _*ℤ_ (pos 0) xs 0 (r ! 0) (r ! 1) (r ! 2) (r ! 3) (m ! 3) (m ! 2) (m ! 1) (m ! 0) (omega arith) r1 r2 r3 r4
+    ∙ (λ i. sum _*ℤ_ (pos 0) (sym (all-four r (front-width s)) i ++ reverse (sym (all-four m (back-width s)) i)) xs)
+    ∙ (λ i. sum _*ℤ_ (pos 0) (getD (table i) k [] ++ reverse (getD (table i) (11 - k) [])) xs)
     ∙ (λ i. sum _*ℤ_ (pos 0) (sym (frac-mirrored (s .args .fraction)) i) xs) in
     back w16 (c .narrow .result) (c .narrow .ok) ∙ c .narrow .ensures ∙ ap (narrowed 15) all
 
@@ -77,7 +100,9 @@ output-spec =
     sub-mirror
     mul-mirror
     element-copy-out-mirror
-    forward-requires
-    backward-requires
+    two-requires
+    two-requires-2
+    two-requires-3
+    two-requires-4
     narrow-requires
     returns)
