@@ -1,7 +1,10 @@
 -- `stages::allpass::allpass` meets its contract: each leaf wraps as the definition does.
 -- Assumes nothing.
+use mathlib.Core.Path.{_∙_}
 use borrow.Author.Needs.{needs}
+use lib.IntN.{_+ℤ_, _-ℤ_}
 use mir.Syntax.{w32}
+use Rattle.fixed.specs.Fixed.{wrapped, times}
 use Rattle.stages.specs.Section.{sectionOut, sectionNext, sectionX}
 use Rattle.fixed.proofs.Laws.Fit.{back}
 use Rattle.stages.proofs.allpass.allpass.Statement.{statement}
@@ -22,19 +25,19 @@ add-requires-2 c κs = search needs
 returns : tie.Need-returns
 unfolding sectionOut sectionNext sectionX
 returns c =
-    let s = c .before .before .before .before in
+    let start = c .before .before .before .before in
     let y = c .before .before .before .sub in
     let t = c .before .before .mul-q16 in
     let p = c .before .add in
     let q = c .add2 in
-    let f0 = back w32 (s .args .a) (s .fits .a .sfits) in
-    let f1 = back w32 (s .args .s) (s .fits .s .sfits) in
-    let f2 = back w32 (s .args .x) (s .fits .x .sfits) in
-    let f3 = back w32 (y .result) (y .ok) in
-    let f4 = back w32 (t .result) (t .ok) in
-    let f5 = back w32 (p .result) (p .ok) in
-    let f6 = back w32 (q .result) (q .ok) in
-    ((cc), (cc))
+    let a = back w32 (start .args .a) (start .fits .a .sfits) in
+    let s = back w32 (start .args .s) (start .fits .s .sfits) in
+    let x = back w32 (start .args .x) (start .fits .x .sfits) in
+    let d = back w32 (y .result) (y .ok) ∙ y .ensures ∙ (λ i. wrapped (x i -ℤ s i)) in
+    let X = back w32 (t .result) (t .ok) ∙ t .ensures ∙ (λ i. times (a i) (d i)) in
+    let out = back w32 (p .result) (p .ok) ∙ p .ensures ∙ (λ i. wrapped (s i +ℤ X i)) in
+    let word = back w32 (q .result) (q .ok) ∙ q .ensures ∙ (λ i. wrapped (x i +ℤ X i)) in
+    (out, word)
 
 pub allpass-spec : {M : Type 1} → statement M
 allpass-spec =

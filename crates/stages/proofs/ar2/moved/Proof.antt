@@ -1,9 +1,12 @@
 -- `stages::ar2::moved` meets its contract: each leaf wraps as the definition does, so the words agree term by term.
 -- Assumes nothing.
+use mathlib.Core.Path.{_∙_}
+use mathlib.Core.List.{[], _∷_}
 use borrow.Author.Needs.{needs}
 use denote.Ref.{now}
+use lib.IntN.{pos, _+ℤ_, _*ℤ_}
 use mir.Syntax.{w16, w32}
-use mir.Facts.{toZ-ofZ}
+use Rattle.fixed.specs.Fixed.{wrapped, times}
 use Rattle.stages.specs.Lists.{_!_}
 use Rattle.stages.specs.Stage.Ar2.{ar2After}
 use Rattle.fixed.proofs.Laws.Fit.{back}
@@ -41,16 +44,15 @@ returns c =
     let word = a0 .before in
     let q = word .before in
     let a = q .before .args in
-    cc (
-      toZ-ofZ (q .before .fits .out32),
-      back w32 (q .shl2 .result) (q .shl2 .ok),
-      back w32 (a .t1 .w ! 1) (word .add-arg .given),
-      back w16 (now (a .AQ14) ! 0) (a0 .mul-i16-arg .given),
-      back w32 (m0 .mul-i16 .result) (m0 .mul-i16 .ok),
-      back w32 (sum .add .result) (sum .add .ok),
-      back w16 (now (a .AQ14) ! 1) (a1 .mul-i16-arg2 .given),
-      back w32 (c .mul-i162 .result) (c .mul-i162 .ok),
-    )
+    let out32 = back w32 (a .out32) (q .before .fits .out32 .sfits) in
+    let fourfold = back w32 (q .shl2 .result) (q .shl2 .ok) ∙ q .shl2 .ensures ∙ (λ i. wrapped (pos 4 *ℤ out32 i)) in
+    let A0 = back w16 (now (a .AQ14) ! 0) (a0 .mul-i16-arg .given) in
+    let A1 = back w16 (now (a .AQ14) ! 1) (a1 .mul-i16-arg2 .given) in
+    let w1 = back w32 (a .t1 .w ! 1) (word .add-arg .given) in
+    let p0 = back w32 (m0 .mul-i16 .result) (m0 .mul-i16 .ok) ∙ m0 .mul-i16 .ensures ∙ (λ i. times (A0 i) (fourfold i)) in
+    let s0 = back w32 (sum .add .result) (sum .add .ok) ∙ sum .add .ensures ∙ (λ i. wrapped (w1 i +ℤ p0 i)) in
+    let s1 = back w32 (c .mul-i162 .result) (c .mul-i162 .ok) ∙ c .mul-i162 .ensures ∙ (λ i. times (A1 i) (fourfold i)) in
+    λ i. s0 i ∷ s1 i ∷ []
 
 pub moved-spec : {M : Type 1} → statement M
 moved-spec =
