@@ -2,7 +2,7 @@
 -- Assumes nothing.
 use mathlib.Core.Path.{_≡_, sym, _∙_, ap}
 use mathlib.Core.List.{List, [], _++_, reverse}
-use Prim.Native.Nat.{ℕ, _*_, _-_, _/_}
+use Prim.Native.Nat.{ℕ, _*_, _-_, _/_, _<_}
 use native.Mathlib.Omega.{arith}
 use borrow.Author.Needs.{needs}
 use denote.Ref.{now}
@@ -17,7 +17,7 @@ use Rattle.stages.specs.Stage.IirFir.{interpolated, interpolation}
 use Rattle.fixed.proofs.Laws.Fit.{back}
 use Rattle.stages.proofs.Laws.Lists.{all-four}
 use Rattle.stages.proofs.Laws.Dot.{eight-taps}
-use Rattle.stages.proofs.Laws.Taps.{row-below, frac-width, frac-mirrored}
+use Rattle.stages.proofs.Laws.Taps.{frac-width, frac-mirrored}
 use Rattle.stages.proofs.iir_fir.output.Statement.{statement}
 use Rattle.stages.proofs.iir_fir.output.Tie as tie
 
@@ -28,11 +28,8 @@ module _ (s : tie.Start) where
   abbrev at : ℕ → List ℤ
   at k = getD (now (s .args .t)) k []
 
-  front-width : length (at row) ≡ 4
-  front-width = rw (s .pre .0) (frac-width row (row-below 12 (s .args .fraction) (s .pre .1) (omega arith)))
-
-  back-width : length (at (11 - row)) ≡ 4
-  back-width = rw (s .pre .0) (frac-width (11 - row) (omega arith))
+  width : (k : ℕ) → k < 12 → length (at k) ≡ 4
+  width k h = rw (s .pre .0) (frac-width k h)
 
 mul-k : tie.Need-mul-k
 mul-k c = search needs
@@ -53,16 +50,16 @@ element-copy-out-mirror : tie.Need-element-copy-out-mirror
 element-copy-out-mirror c = search needs
 
 two-requires : tie.Need-two-requires
-two-requires c κs = let s = c .before .before in (front-width s, omega arith, omega arith, omega (arith, s .pre .2))
+two-requires c κs = let s = c .before .before in (width s _ (omega arith), omega arith, omega arith, omega (arith, s .pre .2))
 
 two-requires-2 : tie.Need-two-requires-2
-two-requires-2 c κs = let s = c .before .before .before in (front-width s, omega arith, omega arith, omega (arith, s .pre .2))
+two-requires-2 c κs = let s = c .before .before .before in (width s _ (omega arith), omega arith, omega arith, omega (arith, s .pre .2))
 
 two-requires-3 : tie.Need-two-requires-3
-two-requires-3 c κs = let s = c .before .before .before .before in (back-width s, omega arith, omega arith, omega (arith, s .pre .2))
+two-requires-3 c κs = let s = c .before .before .before .before in (width s _ (omega arith), omega arith, omega arith, omega (arith, s .pre .2))
 
 two-requires-4 : tie.Need-two-requires-4
-two-requires-4 c κs = let s = c .before .before .before .before .before in (back-width s, omega arith, omega arith, omega (arith, s .pre .2))
+two-requires-4 c κs = let s = c .before .before .before .before .before in (width s _ (omega arith), omega arith, omega arith, omega (arith, s .pre .2))
 
 narrow-requires : tie.Need-narrow-requires
 narrow-requires c κs = search needs
@@ -85,7 +82,7 @@ returns c =
     let r3 = back w32 (t3 .two3 .result) (t3 .two3 .ok) ∙ t3 .two3 .ensures in
     let r4 = back w32 (t4 .two4 .result) (t4 .two4 .ok) ∙ t4 .two4 .ensures in
     let all = eight-taps _*ℤ_ (pos 0) xs 0 (r ! 0) (r ! 1) (r ! 2) (r ! 3) (m ! 3) (m ! 2) (m ! 1) (m ! 0) (omega arith) r1 r2 r3 r4
-    ∙ (λ i. sum _*ℤ_ (pos 0) (sym (all-four r (front-width s)) i ++ reverse (sym (all-four m (back-width s)) i)) xs)
+    ∙ (λ i. sum _*ℤ_ (pos 0) (sym (all-four r (width s k (omega arith))) i ++ reverse (sym (all-four m (width s (11 - k) (omega arith))) i)) xs)
     ∙ (λ i. sum _*ℤ_ (pos 0) (getD (table i) k [] ++ reverse (getD (table i) (11 - k) [])) xs)
     ∙ (λ i. sum _*ℤ_ (pos 0) (sym (frac-mirrored (s .args .fraction)) i) xs) in
     back w16 (c .narrow .result) (c .narrow .ok) ∙ c .narrow .ensures ∙ ap (narrowed 15) all
