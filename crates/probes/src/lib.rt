@@ -5,7 +5,8 @@ use stages::Answer;
 use stages::Rates;
 use stages::rom;
 ghost use mathlib.Core.Path.{_≡_};
-ghost use Prim.Native.Nat.{_*_, _%_, _≤_};
+ghost use mathlib.Core.Bool.{true};
+ghost use Prim.Native.Nat.{_*_, _%_, _<_, _≤_};
 ghost use lib.ListN.{length};
 ghost use Rattle.stages.specs.Reader.{outputs, Steady};
 ghost use Rattle.stages.specs.Stage.DownFir.{Fitting};
@@ -143,6 +144,17 @@ pub extern "C" fn probe_up2_HQ(words: Six, out: &mut [i16], input: &[i16]) -> Do
     }
 }
 
+// Whether n samples are whole milliseconds, and what they make has room in so many places.
+fn fits(r: Rates, n: usize, room: usize) -> bool
+    requires { ⌜ (0 < r .inKhz) × (0 < r .outKhz) ⌝ }
+    ensures { λ q. ⌜ (q ≡ true → (n % r .inKhz ≡ 0) × (outputs r n ≤ room)) ⌝ }
+{
+    if n % r.inKhz != 0 {
+        return false;
+    }
+    n / r.inKhz <= room / r.outKhz
+}
+
 fn down(
     r: Rates,
     cs: &[i16],
@@ -152,9 +164,11 @@ fn down(
     out: &mut [i16],
     input: &[i16],
 ) -> DownPass
-    requires { ⌜ Fitting order rows (now cs) × Steady (r .inKhz) r × (length (words .fir) ≡ 36) ⌝ }
-    requires { ⌜ (length (now input) % r .inKhz ≡ 0) × (outputs r (length (now input)) ≤ length (now out)) ⌝ }
+    requires { ⌜ Fitting order rows (now cs) × Steady (r .inKhz) r × (0 < r .outKhz) × (length (words .fir) ≡ 36) ⌝ }
 {
+    if !fits(r, input.len(), out.len()) {
+        return DownPass { written: 0, words };
+    }
     let ar2 = words.ar2;
     let fir = words.fir;
     let s = stages::DownWords { ar2, fir };
@@ -170,12 +184,6 @@ fn down(
 
 #[no_mangle]
 pub extern "C" fn probe_down_16_12(words: DownWords, out: &mut [i16], input: &[i16]) -> DownPass {
-    if input.len() % 16 != 0 {
-        return DownPass { written: 0, words };
-    }
-    if out.len() / 12 < input.len() / 16 {
-        return DownPass { written: 0, words };
-    }
     let r = Rates {
         inKhz: 16,
         outKhz: 12,
@@ -186,12 +194,6 @@ pub extern "C" fn probe_down_16_12(words: DownWords, out: &mut [i16], input: &[i
 
 #[no_mangle]
 pub extern "C" fn probe_down_12_8(words: DownWords, out: &mut [i16], input: &[i16]) -> DownPass {
-    if input.len() % 12 != 0 {
-        return DownPass { written: 0, words };
-    }
-    if out.len() / 8 < input.len() / 12 {
-        return DownPass { written: 0, words };
-    }
     let r = Rates {
         inKhz: 12,
         outKhz: 8,
@@ -202,12 +204,6 @@ pub extern "C" fn probe_down_12_8(words: DownWords, out: &mut [i16], input: &[i1
 
 #[no_mangle]
 pub extern "C" fn probe_down_16_8(words: DownWords, out: &mut [i16], input: &[i16]) -> DownPass {
-    if input.len() % 16 != 0 {
-        return DownPass { written: 0, words };
-    }
-    if out.len() / 8 < input.len() / 16 {
-        return DownPass { written: 0, words };
-    }
     let r = Rates {
         inKhz: 16,
         outKhz: 8,
@@ -218,12 +214,6 @@ pub extern "C" fn probe_down_16_8(words: DownWords, out: &mut [i16], input: &[i1
 
 #[no_mangle]
 pub extern "C" fn probe_down_48_16(words: DownWords, out: &mut [i16], input: &[i16]) -> DownPass {
-    if input.len() % 48 != 0 {
-        return DownPass { written: 0, words };
-    }
-    if out.len() / 16 < input.len() / 48 {
-        return DownPass { written: 0, words };
-    }
     let r = Rates {
         inKhz: 48,
         outKhz: 16,
@@ -234,12 +224,6 @@ pub extern "C" fn probe_down_48_16(words: DownWords, out: &mut [i16], input: &[i
 
 #[no_mangle]
 pub extern "C" fn probe_down_48_12(words: DownWords, out: &mut [i16], input: &[i16]) -> DownPass {
-    if input.len() % 48 != 0 {
-        return DownPass { written: 0, words };
-    }
-    if out.len() / 12 < input.len() / 48 {
-        return DownPass { written: 0, words };
-    }
     let r = Rates {
         inKhz: 48,
         outKhz: 12,
@@ -250,12 +234,6 @@ pub extern "C" fn probe_down_48_12(words: DownWords, out: &mut [i16], input: &[i
 
 #[no_mangle]
 pub extern "C" fn probe_down_48_8(words: DownWords, out: &mut [i16], input: &[i16]) -> DownPass {
-    if input.len() % 48 != 0 {
-        return DownPass { written: 0, words };
-    }
-    if out.len() / 8 < input.len() / 48 {
-        return DownPass { written: 0, words };
-    }
     let r = Rates {
         inKhz: 48,
         outKhz: 8,
@@ -265,9 +243,11 @@ pub extern "C" fn probe_down_48_8(words: DownWords, out: &mut [i16], input: &[i1
 }
 
 fn up(r: Rates, words: UpWords, out: &mut [i16], input: &[i16]) -> UpPass
-    requires { ⌜ Steady (2 * r .inKhz) r × (r .inKhz ≤ 16) × (length (words .doubler) ≡ 6) × (length (words .samples) ≡ 8) ⌝ }
-    requires { ⌜ (length (now input) % r .inKhz ≡ 0) × (outputs r (length (now input)) ≤ length (now out)) ⌝ }
+    requires { ⌜ Steady (2 * r .inKhz) r × (r .inKhz ≤ 16) × (0 < r .outKhz) × (length (words .doubler) ≡ 6) × (length (words .samples) ≡ 8) ⌝ }
 {
+    if !fits(r, input.len(), out.len()) {
+        return UpPass { written: 0, words };
+    }
     let doubler = words.doubler;
     let samples = words.samples;
     let s = stages::IirFirWords { doubler, samples };
@@ -286,12 +266,6 @@ fn up(r: Rates, words: UpWords, out: &mut [i16], input: &[i16]) -> UpPass
 
 #[no_mangle]
 pub extern "C" fn probe_up_8_12(words: UpWords, out: &mut [i16], input: &[i16]) -> UpPass {
-    if input.len() % 8 != 0 {
-        return UpPass { written: 0, words };
-    }
-    if out.len() / 12 < input.len() / 8 {
-        return UpPass { written: 0, words };
-    }
     let r = Rates {
         inKhz: 8,
         outKhz: 12,
@@ -302,12 +276,6 @@ pub extern "C" fn probe_up_8_12(words: UpWords, out: &mut [i16], input: &[i16]) 
 
 #[no_mangle]
 pub extern "C" fn probe_up_8_24(words: UpWords, out: &mut [i16], input: &[i16]) -> UpPass {
-    if input.len() % 8 != 0 {
-        return UpPass { written: 0, words };
-    }
-    if out.len() / 24 < input.len() / 8 {
-        return UpPass { written: 0, words };
-    }
     let r = Rates {
         inKhz: 8,
         outKhz: 24,
@@ -318,12 +286,6 @@ pub extern "C" fn probe_up_8_24(words: UpWords, out: &mut [i16], input: &[i16]) 
 
 #[no_mangle]
 pub extern "C" fn probe_up_8_48(words: UpWords, out: &mut [i16], input: &[i16]) -> UpPass {
-    if input.len() % 8 != 0 {
-        return UpPass { written: 0, words };
-    }
-    if out.len() / 48 < input.len() / 8 {
-        return UpPass { written: 0, words };
-    }
     let r = Rates {
         inKhz: 8,
         outKhz: 48,
@@ -334,12 +296,6 @@ pub extern "C" fn probe_up_8_48(words: UpWords, out: &mut [i16], input: &[i16]) 
 
 #[no_mangle]
 pub extern "C" fn probe_up_12_16(words: UpWords, out: &mut [i16], input: &[i16]) -> UpPass {
-    if input.len() % 12 != 0 {
-        return UpPass { written: 0, words };
-    }
-    if out.len() / 16 < input.len() / 12 {
-        return UpPass { written: 0, words };
-    }
     let r = Rates {
         inKhz: 12,
         outKhz: 16,
@@ -350,12 +306,6 @@ pub extern "C" fn probe_up_12_16(words: UpWords, out: &mut [i16], input: &[i16])
 
 #[no_mangle]
 pub extern "C" fn probe_up_12_48(words: UpWords, out: &mut [i16], input: &[i16]) -> UpPass {
-    if input.len() % 12 != 0 {
-        return UpPass { written: 0, words };
-    }
-    if out.len() / 48 < input.len() / 12 {
-        return UpPass { written: 0, words };
-    }
     let r = Rates {
         inKhz: 12,
         outKhz: 48,
@@ -366,12 +316,6 @@ pub extern "C" fn probe_up_12_48(words: UpWords, out: &mut [i16], input: &[i16])
 
 #[no_mangle]
 pub extern "C" fn probe_up_16_24(words: UpWords, out: &mut [i16], input: &[i16]) -> UpPass {
-    if input.len() % 16 != 0 {
-        return UpPass { written: 0, words };
-    }
-    if out.len() / 24 < input.len() / 16 {
-        return UpPass { written: 0, words };
-    }
     let r = Rates {
         inKhz: 16,
         outKhz: 24,
@@ -382,12 +326,6 @@ pub extern "C" fn probe_up_16_24(words: UpWords, out: &mut [i16], input: &[i16])
 
 #[no_mangle]
 pub extern "C" fn probe_up_16_48(words: UpWords, out: &mut [i16], input: &[i16]) -> UpPass {
-    if input.len() % 16 != 0 {
-        return UpPass { written: 0, words };
-    }
-    if out.len() / 48 < input.len() / 16 {
-        return UpPass { written: 0, words };
-    }
     let r = Rates {
         inKhz: 16,
         outKhz: 48,
