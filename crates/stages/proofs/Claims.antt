@@ -1,5 +1,5 @@
 -- The claims of specs/Claims.antt. Assumes nothing.
-use mathlib.Core.Path.{_≡_, refl, sym, _∙_}
+use mathlib.Core.Path.{_≡_, refl, sym, ap, _∙_}
 use mathlib.Core.List.{List}
 use mathlib.Core.Bool.{Bool, true, false}
 use Prim.Native.Nat.{ℕ, _*_, _/_}
@@ -11,14 +11,14 @@ use lib.ListN.{length, drop}
 use lib.Seq.{drop-append-seam}
 use Rattle.stages.specs.declared.answer.Answer.the-variants.{Done, Refused}
 use Rattle.fixed.specs.Choice.{if_then_else_}
-use Rattle.stages.specs.Lists.{tabulate, joined, pairs}
+use Rattle.stages.specs.Lists.{tabulate, joined, pairs, padded}
 use Rattle.stages.specs.Run.{run, end}
 use Rattle.stages.specs.Outcome.{Outcome, outcome, ruled, written, over}
 use Rattle.stages.specs.Stage.Down2.{down2, down2End}
 use Rattle.stages.specs.Stage.Down2_3.{down23, down23End}
 use Rattle.stages.specs.Stage.AnaFiltBank1.{splitLow, splitHigh, splitEnd}
 use Rattle.stages.specs.Entry.{halfRow, down23Row, down2Outcome, splitOutcome, down23Outcome}
-use Rattle.stages.specs.Claims.{Fixed, OutcomesFixed, Refused-by, RefusalsRefuse, NothingKept, BeyondUntouched}
+use Rattle.stages.specs.Claims.{Fixed, OutcomesFixed, StagesFixed, DeadFixed, Refused-by, RefusalsRefuse, NothingKept, BeyondUntouched}
 use Rattle.stages.proofs.Laws.Groups.{no-group, down23-length}
 
 -- two that equal the same
@@ -28,6 +28,14 @@ fixed promised a b p q = p ∙ sym q
 pub outcomes-fixed : OutcomesFixed
 unfolding OutcomesFixed
 outcomes-fixed w input out high = (fixed (down2Outcome w input out), fixed (splitOutcome w input out high), fixed (down23Outcome w input out))
+
+pub stages-fixed : StagesFixed
+unfolding StagesFixed
+stages-fixed S A made before kept o p w v a b = (a .filled ∙ sym (b .filled), a .carried ∙ sym (b .carried))
+
+pub dead-fixed : DeadFixed
+unfolding DeadFixed
+dead-fixed order f g live zf zg = zf ∙ ap (padded 36) live ∙ sym zg
 
 -- every outcome is ruled by its row
 ruled-refuses : {S L : Type 0} (row : ℕ) (s : S) (lent : L) (done : Outcome S L) → Refused-by row s lent (ruled row s lent done)

@@ -1,13 +1,14 @@
--- What is claimed of the entry points' outcomes, a sentence and a statement each. The proofs stand in proofs/Claims.antt.
+-- What is claimed of the promises, those of the entry points above all, a sentence and a statement each. The proofs stand in proofs/Claims.antt.
 use mathlib.Core.Path.{_≡_}
 use mathlib.Core.Bool.{_&&_}
 use Prim.Native.Nat.{ℕ, _/_}
 use mathlib.Core.List.{List, []}
 use lib.Dec.{eqb}
 use lib.IntN.{ℤ}
-use lib.ListN.{length, drop}
+use lib.ListN.{length, take, drop}
 use Rattle.stages.specs.declared.answer.Answer.the-variants.{Done}
-use Rattle.stages.specs.Outcome.{Outcome, outcome, number, written}
+use Rattle.stages.specs.Lists.{padded}
+use Rattle.stages.specs.Outcome.{Outcome, outcome, number, written, Staged}
 use Rattle.stages.specs.Entry.{halfRow, down23Row, down2Outcome, splitOutcome, down23Outcome}
 
 -- a promise fixes all that a call leaves: two outcomes that it allows are one, refused or done
@@ -18,6 +19,15 @@ unfoldable pub OutcomesFixed : Type 0
 OutcomesFixed =
     (w input out high : List ℤ)
     → Fixed (down2Outcome w input out) × Fixed (splitOutcome w input out high) × Fixed (down23Outcome w input out)
+
+-- likewise for a stage that is no entry point: any two outputs that its promise allows are one, and so are the words
+unfoldable pub StagesFixed : Type 1
+StagesFixed =
+    (S A : Type 0) (made before : List A) (kept : S) (o p : List A) (w v : S) → Staged made kept before o w → Staged made kept before p v → (o ≡ p) × (w ≡ v)
+
+-- and the words of a down filter, of which the live ones are fixed so and the others are zero
+unfoldable pub DeadFixed : Type 0
+DeadFixed = (order : ℕ) (f g : List ℤ) → take order f ≡ take order g → f ≡ padded 36 (take order f) → g ≡ padded 36 (take order g) → f ≡ g
 
 -- a row that applies is the answer's number; no sample is reported; words and output are as they were
 pub record Refuses {S L : Type 0} (row : ℕ) (s : S) (lent : L) (o : Outcome S L) : Type 0 where
