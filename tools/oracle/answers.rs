@@ -2,11 +2,12 @@
 //! Run: answers FILE.
 
 mod probes;
+mod stages;
 mod values;
 mod word;
 
-use unopus::silk::resampler::ar2::silk_resampler_private_AR2;
-use unopus::silk::resampler::rom::*;
+use stages::{Stage, DOWN_TABLES};
+use unopus::silk::resampler::rom::{silk_Resampler_2_3_COEFS_LQ, silk_resampler_frac_FIR_12};
 use values::{Dice, EDGES};
 
 const SUM: usize = 0;
@@ -14,12 +15,27 @@ const DIFFERENCE: usize = 1;
 const FOURFOLD: usize = 2;
 const PRODUCT: usize = 3;
 const NARROWING: usize = 4;
-const AR2: usize = 5;
+
+/// What each kind's cases are called in the count of them.
+const NAMES: [&str; 12] = [
+    "sums",
+    "differences",
+    "four-folds",
+    "products",
+    "narrowings",
+    "runs of AR2",
+    "of the 1/2 decimator",
+    "of the split",
+    "of the 2/3 decimator",
+    "of the doubler",
+    "of the interpolator",
+    "of the down filters",
+];
 
 #[derive(Default)]
 struct Answers {
     bytes: Vec<u8>,
-    cases: [usize; 6],
+    cases: [usize; NAMES.len()],
     checked: usize,
 }
 
@@ -35,7 +51,9 @@ impl Answers {
         let lengths = [kind, given.len(), samples.len(), outputs.len(), after.len()];
         let lengths = lengths.map(|n| n as i32);
         let samples: Vec<i32> = samples.iter().map(|x| *x as i32).collect();
-        for number in [&lengths, given, &samples, outputs, after].concat() {
+        let numbers = [&lengths, given, &samples, outputs, after].concat();
+        assert!(numbers.len() <= 1024, "a case is too long: {lengths:?}");
+        for number in numbers {
             self.bytes.extend(number.to_le_bytes());
         }
         self.cases[kind] += 1;
@@ -60,14 +78,17 @@ fn main() {
     fourfolds(&mut answers, &mut dice);
     products(&mut answers, &mut dice);
     narrowings(&mut answers, &mut dice);
-    ar2_runs(&mut answers, &mut dice);
+    for stage in all_stages(&mut dice) {
+        runs(&mut answers, &stage, &mut dice);
+    }
     std::fs::write(file, &answers.bytes).expect("the file can be written");
 
-    let [sums, differences, fourfolds, products, narrowings, ar2_runs] = answers.cases;
+    for (name, cases) in NAMES.iter().zip(answers.cases) {
+        print!("{cases} {name}, ");
+    }
     println!(
-        "{sums} sums, {differences} differences, {fourfolds} four-folds, {products} products, \
-         {narrowings} narrowings, {ar2_runs} AR2 runs; \
-         {} word answers cross-checked against a call of the original",
+        "{} cases; {} word answers cross-checked against a call of the original",
+        answers.cases.iter().sum::<usize>(),
         answers.checked
     );
 }
@@ -116,34 +137,76 @@ fn narrowings(answers: &mut Answers, dice: &mut Dice) {
     }
 }
 
-/// Every pair of coefficients with each choice of words and of samples, and at each short length.
-fn ar2_runs(answers: &mut Answers, dice: &mut Dice) {
-    for coefficients in coefficient_pairs(dice) {
-        for words in [zero_words, any_words, extreme_words] {
-            for samples in [silence, impulse, full_scale, any_samples] {
-                let length = dice.between(0, 96) as usize;
-                ar2_run(answers, coefficients, words(dice), &samples(length, dice));
+/// AR2 with each pair of coefficients, and the others; the readers at each pair of rates whose path has them.
+fn all_stages(dice: &mut Dice) -> Vec<Stage> {
+    let pairs = coefficient_pairs(dice).into_iter();
+    let mut all: Vec<Stage> = pairs.map(stages::ar2).collect();
+    all.extend([
+        stages::down2(),
+        stages::split(),
+        stages::down2_3(),
+        stages::up2_hq(),
+    ]);
+    let interpolated = [
+        (8, 12),
+        (8, 24),
+        (8, 48),
+        (12, 16),
+        (12, 48),
+        (16, 24),
+        (16, 48),
+    ];
+    let filtered = [
+        (12, 8),
+        (16, 8),
+        (16, 12),
+        (24, 8),
+        (24, 12),
+        (24, 16),
+        (48, 8),
+        (48, 12),
+        (48, 16),
+    ];
+    let pairs = interpolated.into_iter().chain(filtered);
+    all.extend(pairs.map(|(in_khz, out_khz)| stages::reader(in_khz, out_khz)));
+    all
+}
+
+/// Each choice of words with each signal, each short length, and longer runs.
+fn runs(answers: &mut Answers, stage: &Stage, dice: &mut Dice) {
+    for _ in 0..stage.rounds {
+        for word in [zero_word, any_word, extreme_word] {
+            for signal in [silence, impulse, full_scale, any_samples] {
+                let units = dice.between(0, stage.short as i64) as usize;
+                run(answers, stage, units, word, signal, dice);
             }
         }
-        for length in [0, 1, 2, 3, 96] {
-            ar2_run(
-                answers,
-                coefficients,
-                any_words(dice),
-                &any_samples(length, dice),
-            );
-        }
+    }
+    for units in [0, 1, 2, 3, stage.short] {
+        run(answers, stage, units, any_word, any_samples, dice);
+    }
+    for &units in stage.longer {
+        run(answers, stage, units, zero_word, full_scale, dice);
+        run(answers, stage, units, any_word, any_samples, dice);
+        run(answers, stage, units, extreme_word, any_samples, dice);
     }
 }
 
 /// The answer of the original itself.
-fn ar2_run(answers: &mut Answers, coefficients: [i16; 2], words: [i32; 2], samples: &[i16]) {
-    let [a0, a1] = coefficients.map(|c| c as i32);
-    let given = [a0, a1, words[0], words[1]];
-    let mut after = words;
-    let mut outputs = vec![0; samples.len()];
-    silk_resampler_private_AR2(&mut after, &mut outputs, samples, &coefficients);
-    answers.case(AR2, &given, samples, &outputs, &after);
+fn run(
+    answers: &mut Answers,
+    stage: &Stage,
+    units: usize,
+    word: Word,
+    signal: Signal,
+    dice: &mut Dice,
+) {
+    let words = words(stage, word, dice);
+    let samples = signal(units * stage.unit, dice);
+    let mut after = words.clone();
+    let outputs = stage.call(&mut after, &samples);
+    let given = [&stage.told[..], &words].concat();
+    answers.case(stage.kind, &given, &samples, &outputs, &after);
 }
 
 /// All pairs of edges, pairs of any words, and words with 256 times a sample.
@@ -182,16 +245,8 @@ fn table_coefficients() -> Vec<i32> {
 }
 
 /// The tables that begin with a pair for AR2.
-fn ar2_tables() -> [&'static [i16]; 7] {
-    [
-        &silk_Resampler_3_4_COEFS,
-        &silk_Resampler_2_3_COEFS,
-        &silk_Resampler_1_2_COEFS,
-        &silk_Resampler_1_3_COEFS,
-        &silk_Resampler_1_4_COEFS,
-        &silk_Resampler_1_6_COEFS,
-        &silk_Resampler_2_3_COEFS_LQ,
-    ]
+fn ar2_tables() -> Vec<&'static [i16]> {
+    [&DOWN_TABLES[..], &[&silk_Resampler_2_3_COEFS_LQ]].concat()
 }
 
 /// Words at the edges of rounding by `n` bits: where 32 bits end, where it clips, at halves.
@@ -211,7 +266,8 @@ fn wide_words(n: i32, dice: &mut Dice) -> Vec<i32> {
 
 /// The first two entries of each table, the largest and smallest pairs, and four others.
 fn coefficient_pairs(dice: &mut Dice) -> Vec<[i16; 2]> {
-    let mut pairs: Vec<[i16; 2]> = ar2_tables().map(|table| [table[0], table[1]]).to_vec();
+    let tables = ar2_tables().into_iter();
+    let mut pairs: Vec<[i16; 2]> = tables.map(|table| [table[0], table[1]]).collect();
     for a0 in [i16::MIN, i16::MAX] {
         pairs.extend([[a0, i16::MIN], [a0, i16::MAX]]);
     }
@@ -219,18 +275,30 @@ fn coefficient_pairs(dice: &mut Dice) -> Vec<[i16; 2]> {
     pairs
 }
 
-fn zero_words(_: &mut Dice) -> [i32; 2] {
-    [0, 0]
+type Word = fn(&mut Dice) -> i32;
+
+/// Words for a run; of a word that holds a sample the upper half.
+fn words(stage: &Stage, word: Word, dice: &mut Dice) -> Vec<i32> {
+    let mut words: Vec<i32> = (0..stage.words).map(|_| word(dice)).collect();
+    for held in &mut words[stage.words - stage.held..] {
+        *held >>= 16;
+    }
+    words
 }
 
-fn any_words(dice: &mut Dice) -> [i32; 2] {
-    [dice.word(), dice.word()]
+fn zero_word(_: &mut Dice) -> i32 {
+    0
 }
 
-fn extreme_words(dice: &mut Dice) -> [i32; 2] {
-    let extremes = [i32::MIN, i32::MIN + 1, i32::MAX - 1, i32::MAX];
-    [0, 0].map(|_| extremes[dice.between(0, 3) as usize])
+fn any_word(dice: &mut Dice) -> i32 {
+    dice.word()
 }
+
+fn extreme_word(dice: &mut Dice) -> i32 {
+    [i32::MIN, i32::MIN + 1, i32::MAX - 1, i32::MAX][dice.between(0, 3) as usize]
+}
+
+type Signal = fn(usize, &mut Dice) -> Vec<i16>;
 
 fn silence(length: usize, _: &mut Dice) -> Vec<i16> {
     vec![0; length]

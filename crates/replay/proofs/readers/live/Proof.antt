@@ -1,26 +1,26 @@
--- `replay::samples` is safe and ends: i stays within n, and n within the array.
+-- `replay::readers::live` is safe and ends: i stays within n, and n within both arrays.
 -- Assumes nothing.
 use mathlib.Core.Path.{_≡_}
 use Prim.Native.Nat.{_≤_, _-_}
 use lib.ListN.{length}
 use borrow.Author.Needs.{needs}
-use Rattle.replay.proofs.samples.Statement.{statement}
-use Rattle.replay.proofs.samples.Tie as tie
+use Rattle.replay.proofs.readers.live.Statement.{statement}
+use Rattle.replay.proofs.readers.live.Tie as tie
 
 abbrev Inv-loop : tie.InvT-loop
-Inv-loop fd n to₀ i₀ to i = (i ≤ n) × (n ≤ 1024) × (length to ≡ 1024)
+Inv-loop given n to₀ i₀ to i = (i ≤ n) × (n ≤ 36) × (length to ≡ 36)
 
 abbrev μ-loop : tie.MeasureT-loop
-μ-loop fd n to₀ i₀ to i = n - i
+μ-loop given n to₀ i₀ to i = n - i
 
 loop-holds : tie.Need-loop-holds Inv-loop μ-loop
 loop-holds c = search needs
 
-number-requires : tie.Need-number-requires Inv-loop μ-loop
-number-requires c κs = search needs
+add-word : tie.Need-add-word Inv-loop μ-loop
+add-word c = search needs
 
-clip-requires : tie.Need-clip-requires Inv-loop μ-loop
-clip-requires c κs = search needs
+word-requires : tie.Need-word-requires Inv-loop μ-loop
+word-requires c κs = search needs
 
 mul-to : tie.Need-mul-to Inv-loop μ-loop
 mul-to c = search needs
@@ -40,15 +40,15 @@ loop-again c = search needs
 returns : tie.Need-returns Inv-loop μ-loop
 returns c = search needs
 
-pub samples-spec : {M : Type 1} → statement M
-samples-spec =
+pub live-spec : {M : Type 1} → statement M
+live-spec =
     tie.close
     (tie.spec
     Inv-loop
     μ-loop
     loop-holds
-    number-requires
-    clip-requires
+    add-word
+    word-requires
     mul-to
     array-set-from-to
     add-i

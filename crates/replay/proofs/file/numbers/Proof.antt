@@ -1,16 +1,17 @@
--- `replay::same` is safe and ends: i stays within n, and n within the slice.
+-- `replay::file::numbers` is safe and ends: i stays within n, and n within the array.
 -- Assumes nothing.
+use mathlib.Core.Path.{_≡_}
 use Prim.Native.Nat.{_≤_, _-_}
 use lib.ListN.{length}
 use borrow.Author.Needs.{needs}
-use Rattle.replay.proofs.same.Statement.{statement}
-use Rattle.replay.proofs.same.Tie as tie
+use Rattle.replay.proofs.file.numbers.Statement.{statement}
+use Rattle.replay.proofs.file.numbers.Tie as tie
 
 abbrev Inv-loop : tie.InvT-loop
-Inv-loop fd n got all₀ i₀ all i = (i ≤ n) × (n ≤ length got)
+Inv-loop fd n to₀ i₀ to i = (i ≤ n) × (n ≤ 48) × (length to ≡ 48)
 
 abbrev μ-loop : tie.MeasureT-loop
-μ-loop fd n got all₀ i₀ all i = n - i
+μ-loop fd n to₀ i₀ to i = n - i
 
 loop-holds : tie.Need-loop-holds Inv-loop μ-loop
 loop-holds c = search needs
@@ -18,11 +19,11 @@ loop-holds c = search needs
 number-requires : tie.Need-number-requires Inv-loop μ-loop
 number-requires c κs = search needs
 
-mul-if1 : tie.Need-mul-if1 Inv-loop μ-loop
-mul-if1 c = search needs
+mul-to : tie.Need-mul-to Inv-loop μ-loop
+mul-to c = search needs
 
-shared-slice-copy-out-if1 : tie.Need-shared-slice-copy-out-if1 Inv-loop μ-loop
-shared-slice-copy-out-if1 c = search needs
+array-set-from-to : tie.Need-array-set-from-to Inv-loop μ-loop
+array-set-from-to c = search needs
 
 add-i : tie.Need-add-i Inv-loop μ-loop
 add-i c = search needs
@@ -36,16 +37,16 @@ loop-again c = search needs
 returns : tie.Need-returns Inv-loop μ-loop
 returns c = search needs
 
-pub same-spec : {M : Type 1} → statement M
-same-spec =
+pub numbers-spec : {M : Type 1} → statement M
+numbers-spec =
     tie.close
     (tie.spec
     Inv-loop
     μ-loop
     loop-holds
     number-requires
-    mul-if1
-    shared-slice-copy-out-if1
+    mul-to
+    array-set-from-to
     add-i
     loop-less
     loop-again

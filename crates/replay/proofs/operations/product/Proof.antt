@@ -1,10 +1,10 @@
--- `replay::product` is safe: its two tests are what the product asks of a coefficient.
+-- `replay::operations::product` is safe: its two tests are what the product asks of a coefficient.
 -- Assumes nothing.
 use borrow.Author.Needs.{needs}
 use mir.Facts.{toZ-ofZ}
 use Rattle.fixed.proofs.Laws.Fit.{coef-between}
-use Rattle.replay.proofs.product.Statement.{statement}
-use Rattle.replay.proofs.product.Tie as tie
+use Rattle.replay.proofs.operations.product.Statement.{statement}
+use Rattle.replay.proofs.operations.product.Tie as tie
 
 mul-q16-requires : tie.Need-mul-q16-requires
 mul-q16-requires c κs =

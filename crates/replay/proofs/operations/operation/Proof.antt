@@ -1,9 +1,9 @@
--- `replay::operation` is safe: an i16 fits an i32.
+-- `replay::operations::operation` is safe: an i16 fits an i32.
 -- Assumes nothing.
 use borrow.Author.Needs.{needs}
 use Rattle.fixed.proofs.Laws.Fit.{widen16}
-use Rattle.replay.proofs.operation.Statement.{statement}
-use Rattle.replay.proofs.operation.Tie as tie
+use Rattle.replay.proofs.operations.operation.Statement.{statement}
+use Rattle.replay.proofs.operations.operation.Tie as tie
 
 add-requires : tie.Need-add-requires
 add-requires c κs = search needs
