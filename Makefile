@@ -1,11 +1,12 @@
 # What people do here. `make test` is the gate; it needs the Rattle kit (`rt`) and nothing else.
 .PHONY: run test answers compare bench
 
-# Replays the stored answers of the Rust original against the proved code.
+# Replays the stored answers of the Rust original against the proved code, then runs what its entry points refuse.
 run:
 	@mkdir -p target
-	@rt check replay >target/run.log 2>&1 || { cat target/run.log; exit 1; }
+	@rt check replay refusals >target/run.log 2>&1 || { cat target/run.log; exit 1; }
 	@cd crates/replay/data && ../../../target/bin/replay
+	@target/bin/refusals
 
 # Layout first, then every proof, every must-fail edit and every program; the last line is the verdict.
 test:
