@@ -1,8 +1,7 @@
 -- `probes::fits` meets its contract: n / in-kHz milliseconds make out-kHz samples each, and as many of those go into the room.
 -- Assumes nothing.
-use mathlib.Core.Path.{_≡_, sym, subst}
-use mathlib.Core.Bool.{true}
-use Prim.Native.Nat.{_*_, _/_, _≤_}
+use mathlib.Core.Path.{sym, subst}
+use Prim.Native.Nat.{_/_, _≤_}
 use native.Mathlib.Nat.{mul-le-mul-right, div-add-mod'}
 use native.Mathlib.Omega.{arith}
 use borrow.Author.Needs.{needs}

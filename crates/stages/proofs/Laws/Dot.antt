@@ -1,12 +1,12 @@
 -- Sums of products in groups: a few written out, and a group more behind others. Assumes nothing.
 use mathlib.Core.Path.{_≡_, refl, sym, _∙_}
-use mathlib.Core.List.{List, [], _∷_, _++_, reverse, reverse-append}
-use Prim.Native.Nat.{ℕ, suc, _+_, _≤_}
+use mathlib.Core.List.{List, [], _∷_, _++_}
+use Prim.Native.Nat.{ℕ, _+_, _≤_}
 use native.Mathlib.Nat.{not-suc-le-zero, le-of-suc-le-suc}
 use native.Mathlib.Omega.{arith}
-use lib.IntN.{ℤ, pos, _+ℤ_}
-use lib.ListN.{length, take, drop, length-drop, length-reverse}
-use lib.Seq.{drop-cons, drop-drop, take-add, length-take-le}
+use lib.IntN.{ℤ, _+ℤ_}
+use lib.ListN.{length, take, drop, length-drop}
+use lib.Seq.{drop-drop, take-add, length-take-le}
 use Rattle.stages.specs.Lists.{_!_}
 use Rattle.fixed.specs.Fixed.{wrapped}
 use Rattle.stages.specs.Reader.{sum}

@@ -10,7 +10,6 @@ use lib.IntN.{ℤ, pos}
 use lib.ListN.{length, take, drop, getD, replicate, length-replicate, length-append, length-take, drop-of-length-le, length-drop}
 use lib.Seq.{drop-cons, drop-drop, take-all, take-at, drop-at, take-add, length-take-le}
 use Rattle.stages.specs.Lists.{tabulate, pieces, cut, pairs, padded, last, _!_}
-use Rattle.stages.specs.Run.{run, end}
 
 -- both of two tests
 pub both-true : (a b : Bool) → (a && b) ≡ true → (a ≡ true) × (b ≡ true)

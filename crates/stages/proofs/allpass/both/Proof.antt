@@ -1,11 +1,11 @@
 -- `stages::allpass::both` meets its contract: the two sections are the definition's, on the sample and the word of each.
 -- Assumes nothing.
-use mathlib.Core.Path.{_≡_, ap, _∙_}
+use mathlib.Core.Path.{ap, _∙_}
 use mathlib.Core.List.{[], _∷_}
 use borrow.Author.Needs.{needs}
 use mir.Syntax.{w16, w32}
 use Rattle.stages.specs.Section.{scaled, sectionOut, sectionNext, evenOut, oddOut, halvesNext}
-use Rattle.fixed.proofs.Laws.Fit.{at, back}
+use Rattle.fixed.proofs.Laws.Fit.{back}
 use Rattle.stages.proofs.allpass.both.Statement.{statement}
 use Rattle.stages.proofs.allpass.both.Tie as tie
 

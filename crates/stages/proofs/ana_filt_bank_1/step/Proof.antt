@@ -1,6 +1,6 @@
 -- `stages::ana_filt_bank_1::step` meets its contract: the two sections' outputs are added and subtracted as the definition says.
 -- Assumes nothing.
-use mathlib.Core.Path.{_≡_, ap, _∙_}
+use mathlib.Core.Path.{ap, _∙_}
 use mathlib.Core.List.{[], _∷_}
 use borrow.Author.Needs.{needs}
 use lib.IntN.{_+ℤ_, _-ℤ_}

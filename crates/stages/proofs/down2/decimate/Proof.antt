@@ -2,12 +2,10 @@
 -- whole.
 -- Assumes nothing.
 use mathlib.Core.Path.{_≡_}
-use mathlib.Core.List.{List}
-use Prim.Native.Nat.{ℕ, _+_, _/_, _-_, _<_, _≤_, min}
+use Prim.Native.Nat.{_+_, _/_, _-_, _<_, _≤_, min}
 use native.Mathlib.Omega.{arith}
 use borrow.Author.Needs.{needs}
 use denote.Ref.{now}
-use lib.IntN.{ℤ}
 use lib.ListN.{length, drop, length-take, length-drop}
 use Rattle.stages.specs.Stage.Down2.{down2, down2End}
 use Rattle.stages.proofs.Laws.Lengths.{down2-length, down2End-length}

@@ -1,6 +1,6 @@
 -- `stages::down2::step` meets its contract: the two sections' outputs are added as the definition says.
 -- Assumes nothing.
-use mathlib.Core.Path.{_≡_, _∙_}
+use mathlib.Core.Path.{_∙_}
 use mathlib.Core.List.{[], _∷_}
 use borrow.Author.Needs.{needs}
 use lib.IntN.{_+ℤ_}

@@ -11,7 +11,6 @@ use lib.ListN.{length, getD}
 use mir.Syntax.{w16, w32}
 use Rattle.fixed.specs.Fixed.{narrowed}
 use Rattle.stages.specs.Lists.{_!_}
-use Rattle.stages.specs.Rom.{silk-resampler-frac-FIR-12}
 use Rattle.stages.specs.Reader.{sum}
 use Rattle.stages.specs.Stage.IirFir.{interpolated, interpolation}
 use Rattle.fixed.proofs.Laws.Fit.{back}
