@@ -15,7 +15,9 @@ use Rattle.stages.specs.Stage.AnaFiltBank1 as AnaFiltBank1
 use Rattle.resampler.specs.Pairs as Pairs
 use Rattle.resampler.specs.Record as Record
 use Rattle.resampler.specs.Block as Block
-use Rattle.resampler.specs.Claims.{CasesHold, ThirtySupported, IncrementsReach}
+use Rattle.resampler.specs.Entry.{openOutcome}
+use Rattle.stages.proofs.Claims.{fixed}
+use Rattle.resampler.specs.Claims.{CasesHold, ThirtySupported, IncrementsReach, OpeningFixed}
 
 -- both sides compute to one list of lists
 pub cases-hold : CasesHold
@@ -50,3 +52,7 @@ pub increments-reach : IncrementsReach
 unfolding
     IncrementsReach Pairs.thirty Pairs.filter Pairs.path Pairs.up2x Pairs.raised Pairs.increment mathlib.Core.List.flatMap
 increments-reach = refl
+
+pub opening-fixed : OpeningFixed
+unfolding OpeningFixed
+opening-fixed inHz outHz forEnc = fixed (openOutcome inHz outHz forEnc)

@@ -4,9 +4,12 @@ use mathlib.Core.Bool.{Bool, true}
 use mathlib.Core.List.{map}
 use Prim.Native.Nat.{_*_, _/_, _^_}
 use lib.Dec.{leb}
+use lib.IntN.{ℤ}
 use lib.ListN.{length}
 use Rattle.stages.specs.Lists.{every}
+use Rattle.stages.specs.Claims.{Fixed}
 use Rattle.resampler.specs.Pairs.{Pair, supported, thirty, path, up2x, increment}
+use Rattle.resampler.specs.Entry.{openOutcome}
 use Rattle.resampler.specs.Cases.{cases}
 
 -- the definitions give what every marked case says
@@ -23,3 +26,7 @@ reaches p = leb (1000 * p .inKhz * 2 ^ up2x (path p)) (increment p * (1000 * p .
 
 unfoldable pub IncrementsReach : Type 0
 IncrementsReach = every reaches thirty ≡ true
+
+-- the promise of opening fixes all that it leaves: two outcomes that it allows are one, refused or done
+unfoldable pub OpeningFixed : Type 0
+OpeningFixed = (inHz outHz forEnc : ℤ) → Fixed (openOutcome inHz outHz forEnc)

@@ -1,6 +1,10 @@
 // The resampler: pairs of rates, records and parked blocks, over the stages.
 // From silk/resampler/mod.rs.
+mod init;
 pub mod pairs;
+
+pub use init::Opened;
+pub use init::silk_resampler_init;
 
 // A line's whole state, by value: its pair, and every word and sample that any path can carry.
 // Which of them a pair uses is said in specs/Record.antt; the others are zero.

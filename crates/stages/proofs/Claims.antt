@@ -22,7 +22,7 @@ use Rattle.stages.specs.Claims.{Fixed, OutcomesFixed, StagesFixed, DeadF
 use Rattle.stages.proofs.Laws.Groups.{no-group, down23-length}
 
 -- two that equal the same
-fixed : {S L : Type 0} (promised : Outcome S L) → Fixed promised
+pub fixed : {S L : Type 0} (promised : Outcome S L) → Fixed promised
 fixed promised a b p q = p ∙ sym q
 
 pub outcomes-fixed : OutcomesFixed
