@@ -5,3 +5,4 @@ pub mod Bytes
 pub mod Check
 pub mod Place
 pub mod Laying
+pub mod Entries

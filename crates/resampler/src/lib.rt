@@ -1,6 +1,7 @@
 // The resampler: pairs of rates, records and parked blocks, over the stages.
 // From silk/resampler/mod.rs.
 mod block;
+mod entries;
 mod init;
 pub mod pairs;
 

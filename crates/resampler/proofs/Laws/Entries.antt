@@ -1,0 +1,94 @@
+-- Which entries are live, for either direction; and the loop that clears the others: at each turn what is kept and cleared
+-- and the zeros to come are the whole. Assumes nothing.
+use mathlib.Core.Path.{_≡_, refl, _∙_}
+use mathlib.Core.Bool.{Bool, true, false}
+use mathlib.Core.List.{List, _++_, append-nil}
+use Prim.Native.Nat.{ℕ, suc, _+_, _-_, _<_, _≤_}
+use native.Mathlib.Omega.{arith}
+use borrow.Author.Tests.{leb-true}
+use lib.Dec.{leb}
+use lib.IntN.{ℤ, pos}
+use lib.ListN.{length, take, drop, set, replicate, length-replicate}
+use lib.Seq.{length-take-le}
+use Rattle.fixed.specs.Choice.{if_then_else_}
+use Rattle.stages.specs.Lists.{padded}
+use Rattle.stages.specs.Stage.DownFir.{down-1/3, down-1/4, down-1/6}
+use Rattle.stages.proofs.Laws.Lists.{drop-none}
+use Rattle.stages.proofs.Laws.Loop.{Filling, fill-one}
+use Rattle.resampler.specs.declared.Record.{Record}
+use Rattle.resampler.specs.Pairs.{Pair, pair, supported, rate-id, delay, delay-matrix-enc, delay-matrix-dec, path, filter}
+use Rattle.resampler.specs.Record.{living, live, liveDelay, recordOf, cleaned}
+use Rattle.resampler.proofs.Laws.Pairs.{of-each}
+use Rattle.resampler.proofs.Laws.Place.{place-start, place-end}
+
+-- ---- live entries
+
+-- a path depends on the rates only
+pub path-same : (d i o : ℕ) → path (pair d i o) ≡ path (pair 0 i o)
+unfolding path filter
+path-same d i o = refl
+
+-- the three smallest ratios have one order
+pub order-least : (a b : Bool) → (if a then down-1/3 else if b then down-1/4 else down-1/6) .order ≡ 36
+order-least true b = refl
+order-least false true = refl
+order-least false false = refl
+
+pub delay-few : (p : Pair) → supported p ≡ true → delay p ≤ 48
+unfolding delay delay-matrix-enc delay-matrix-dec rate-id
+delay-few p h = leb-true _ 48 (of-each (λ p. leb (delay p) 48) refl p h)
+
+-- the live entries of each array, and zeros behind them, are the record that is meant
+pub cleaned-is : (s : Record) {doubler samples ar2 fir delays : List ℤ}
+    → (let n = living (path (pair 0 (s .inKhz) (s .outKhz))) in
+    (doubler ≡ padded 6 (take (n .doubler) (s .doubler))) × (samples ≡ padded 8 (take (n .samples) (s .samples)))
+    × (ar2 ≡ padded 2 (take (n .ar2) (s .ar2))) × (fir ≡ padded 36 (take (n .fir) (s .fir))))
+    → delays ≡ padded 48 (take (delay (pair (s .direction) (s .inKhz) (s .outKhz))) (s .delay))
+    → record {
+      direction = s .direction;
+      inKhz = s .inKhz;
+      outKhz = s .outKhz;
+      doubler = doubler;
+      samples = samples;
+      ar2 = ar2;
+      fir = fir;
+      delay = delays;
+    } ≡ cleaned s
+unfolding path filter live liveDelay recordOf cleaned
+cleaned-is s (d, m, a, f) l = λ i. record {
+  direction = s .direction;
+  inKhz = s .inKhz;
+  outKhz = s .outKhz;
+  doubler = d i;
+  samples = m i;
+  ar2 = a i;
+  fir = f i;
+  delay = l i;
+}
+
+-- ---- clearing
+
+-- the length and the number of live entries by other names
+pub kept : (xs : List ℤ) {ys : List ℤ} {m n k : ℕ} → length xs ≡ m → n ≡ k → ys ≡ padded (length xs) (take n xs) → ys ≡ padded m (take k xs)
+kept xs l h e = e ∙ (λ i. padded (l i) (take (h i) xs))
+
+module _ (from : ℕ) (old : List ℤ) where
+  -- the entries before i are kept or cleared
+  pub record Clearing (i : ℕ) (o : List ℤ) : Type 0 where
+    pub within : from ≤ length old
+    pub filling : Filling (take from old ++ replicate (length old - from) (pos 0)) old i o (replicate (length old - i) (pos 0))
+
+  pub clear-start : from ≤ length old → Clearing from old
+  clear-start h = record { within = h; filling = place-start from _ old h }
+
+  pub clear-turn : {i : ℕ} {o : List ℤ} → i < length o → Clearing i o → Clearing (i + 1) (set o i (pos 0))
+  clear-turn {i} h c =
+      let e : length old - i ≡ suc (length old - (i + 1)) = omega (arith, c .filling .len) in
+      record { within = c .within; filling = fill-one _ old (rw e at (c .filling)) h }
+
+  pub clear-end : {i : ℕ} {o : List ℤ} → length o ≤ i → Clearing i o → o ≡ padded (length old) (take from old)
+  clear-end {i} h c =
+      let e : length old - i ≡ 0 = omega (arith, c .filling .len) in
+      let n = length old - from in
+      place-end from _ old (c .within) n (length-replicate n (pos 0)) (rw e at (c .filling))
+      ∙ rw (drop-none old (from + n) (omega (arith, c .within)), append-nil, length-take-le from old (c .within)) refl
