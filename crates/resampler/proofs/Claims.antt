@@ -39,7 +39,7 @@ unfolding
     AnaFiltBank1.lowSum AnaFiltBank1.highSum AnaFiltBank1.lowOut AnaFiltBank1.highOut
     Pairs.rate-id Pairs.delay-matrix-enc Pairs.delay-matrix-dec Pairs.delay
     Pairs.filter Pairs.path Pairs.up2x Pairs.raised Pairs.increment
-    Record.living Record.live Record.liveDelay Record.recordOf Record.cleaned Record.fresh
+    Record.living Record.live Record.liveDelay Record.keeping Record.recordOf Record.cleaned Record.fresh
     Block.bytes Block.value Block.bitsOf Block.laid Block.weighed Block.check Block.body Block.blockOf
     mathlib.Core.List.flatMap
 cases-hold = refl

@@ -6,3 +6,5 @@ pub mod Check
 pub mod Place
 pub mod Laying
 pub mod Entries
+pub mod Live
+pub mod Passes

@@ -47,9 +47,9 @@ dead s =
     drop (n .doubler) (s .doubler) ++ drop (n .samples) (s .samples) ++ drop (n .ar2) (s .ar2) ++ drop (n .fir) (s .fir)
     ++ drop (delay (pairOf s)) (s .delay)
 
--- the record of a pair with these live entries, and zeros behind them
-unfoldable pub recordOf : Pair → Words → List ℤ → Record
-recordOf p w d = record {
+-- the record of a pair with these live words, zeros behind them, and the array of delay samples as it stands
+unfoldable pub keeping : Pair → Words → List ℤ → Record
+keeping p w delay = record {
   direction = p .direction;
   inKhz = p .inKhz;
   outKhz = p .outKhz;
@@ -57,8 +57,12 @@ recordOf p w d = record {
   samples = padded 8 (w .samples);
   ar2 = padded 2 (w .ar2);
   fir = padded 36 (w .fir);
-  delay = padded 48 d;
+  delay = delay;
 }
+
+-- the record of a pair with these live entries, and zeros behind them
+unfoldable pub recordOf : Pair → Words → List ℤ → Record
+recordOf p w d = keeping p w (padded 48 d)
 
 -- the record with its dead entries zero
 unfoldable pub cleaned : Record → Record

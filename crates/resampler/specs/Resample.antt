@@ -3,6 +3,7 @@ use Prim.Native.Nat.{ℕ, _*_, _/_}
 use mathlib.Core.List.{List, [], _++_}
 use lib.IntN.{ℤ}
 use lib.ListN.{length, take, drop}
+use Rattle.stages.specs.declared.rates.Rates.{Rates}
 use Rattle.stages.specs.Run.{passOut, passEnd}
 use Rattle.stages.specs.Stage.Ar2.{ar2End}
 use Rattle.stages.specs.Stage.Up2Hq.{up2, up2End}
@@ -10,11 +11,15 @@ use Rattle.stages.specs.Stage.IirFir.{iirFir, iirFirCarried}
 use Rattle.stages.specs.Stage.DownFir.{downFir, downFirCarried}
 use Rattle.resampler.specs.declared.Record.{Record}
 use Rattle.resampler.specs.Pairs.{Pair, Path, copy, doubler, interpolator, down, path, increment}
-use Rattle.resampler.specs.Record.{Words, arrays, pairOf, live, liveDelay, recordOf}
+use Rattle.resampler.specs.Record.{Words, arrays, pairOf, live, liveDelay, keeping, recordOf}
 
 -- n samples of input are n / in-kHz milliseconds, and each makes out-kHz samples
 unfoldable pub made : Pair → ℕ → ℕ
 made p n = n / p .inKhz * p .outKhz
+
+-- what a stage that reads is told of a pair
+abbrev pub ratesOf : Pair → Rates
+ratesOf p = record { inKhz = p .inKhz; outKhz = p .outKhz; increment = increment p }
 
 -- ---- a batch xs
 
@@ -48,6 +53,10 @@ pass p = passOut (batchOut p) (batchNext p) (batchSize p)
 
 unfoldable pub passWords : Pair → Words → List ℤ → Words
 passWords p = passEnd (batchNext p) (batchSize p)
+
+-- the record after it, with the delay samples as they were
+unfoldable pub passed : Record → List ℤ → Record
+passed s xs = keeping (pairOf s) (passWords (pairOf s) (live s) xs) (s .delay)
 
 -- ---- a call
 

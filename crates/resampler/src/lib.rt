@@ -4,6 +4,7 @@ mod block;
 mod entries;
 mod init;
 pub mod pairs;
+mod resample;
 
 pub use init::Opened;
 pub use init::silk_resampler_init;

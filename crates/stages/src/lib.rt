@@ -31,3 +31,4 @@ pub use iir_fir::IirFirWords;
 pub use iir_fir::silk_resampler_private_IIR_FIR;
 pub use rates::Rates;
 pub use up2_hq::silk_resampler_private_up2_HQ;
+pub use words::copy_samples;

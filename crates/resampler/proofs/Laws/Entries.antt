@@ -8,7 +8,7 @@ use native.Mathlib.Omega.{arith}
 use borrow.Author.Tests.{leb-true}
 use lib.Dec.{leb}
 use lib.IntN.{ℤ, pos}
-use lib.ListN.{length, take, drop, set, replicate, length-replicate}
+use lib.ListN.{length, take, set, replicate, length-replicate}
 use lib.Seq.{length-take-le}
 use Rattle.fixed.specs.Choice.{if_then_else_}
 use Rattle.stages.specs.Lists.{padded}
@@ -17,7 +17,7 @@ use Rattle.stages.proofs.Laws.Lists.{drop-none}
 use Rattle.stages.proofs.Laws.Loop.{Filling, fill-one}
 use Rattle.resampler.specs.declared.Record.{Record}
 use Rattle.resampler.specs.Pairs.{Pair, pair, supported, rate-id, delay, delay-matrix-enc, delay-matrix-dec, path, filter}
-use Rattle.resampler.specs.Record.{living, live, liveDelay, recordOf, cleaned}
+use Rattle.resampler.specs.Record.{living, live, liveDelay, keeping, recordOf, cleaned}
 use Rattle.resampler.proofs.Laws.Pairs.{of-each}
 use Rattle.resampler.proofs.Laws.Place.{place-start, place-end}
 
@@ -54,7 +54,7 @@ pub cleaned-is : (s : Record) {doubler samples ar2 fir delays : List ℤ}
       fir = fir;
       delay = delays;
     } ≡ cleaned s
-unfolding path filter live liveDelay recordOf cleaned
+unfolding path filter live liveDelay keeping recordOf cleaned
 cleaned-is s (d, m, a, f) l = λ i. record {
   direction = s .direction;
   inKhz = s .inKhz;

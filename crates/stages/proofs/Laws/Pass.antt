@@ -114,7 +114,7 @@ module _ {S A B : Type 0} (out : S → List A → List B) (next : S → List A �
       let (o, e) = pieces-whole k (next s (take n ys)) (drop n ys) (omega (arith, length-drop n ys)) in
       (ap (λ (t : List B). out s (take n ys) ++ t) o ∙ sym (parts s ys .0), e ∙ sym (parts s ys .1))
 
-  pass-whole : (s : S) (xs : List A) → (passOut out next n s xs ≡ out s xs) × (passEnd next n s xs ≡ next s xs)
+  pub pass-whole : (s : S) (xs : List A) → (passOut out next n s xs ≡ out s xs) × (passEnd next n s xs ≡ next s xs)
   unfolding passOut passEnd cut
   pass-whole s xs = pieces-whole (length xs) s xs (omega arith)
 

@@ -1,6 +1,5 @@
 -- `resampler::entries::cleaned` meets its contract: the first entries of each array stay, as many as are live, and the others are cleared.
 -- Assumes nothing.
-use mathlib.Core.Path.{sym}
 use native.Mathlib.Omega.{arith}
 use borrow.Author.Needs.{needs}
 use Rattle.resampler.specs.Record.{pairOf}

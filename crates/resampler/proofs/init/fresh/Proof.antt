@@ -2,7 +2,7 @@
 -- Assumes nothing.
 use mathlib.Core.Path.{refl}
 use borrow.Author.Needs.{needs}
-use Rattle.resampler.specs.Record.{fresh, recordOf}
+use Rattle.resampler.specs.Record.{fresh, keeping, recordOf}
 use Rattle.resampler.proofs.init.fresh.Statement.{statement}
 use Rattle.resampler.proofs.init.fresh.Tie as tie
 
@@ -16,7 +16,7 @@ cast-t6 : tie.Need-cast-t6
 cast-t6 c = search needs
 
 returns : tie.Need-returns
-unfolding fresh recordOf
+unfolding fresh keeping recordOf
 returns c = refl
 
 pub fresh-spec : {M : Type 1} → statement M
