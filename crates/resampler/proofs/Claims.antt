@@ -16,8 +16,9 @@ use Rattle.resampler.specs.Pairs as Pairs
 use Rattle.resampler.specs.Record as Record
 use Rattle.resampler.specs.Block as Block
 use Rattle.resampler.specs.Entry.{openOutcome}
+use Rattle.resampler.specs.Block.{parkOutcome}
 use Rattle.stages.proofs.Claims.{fixed}
-use Rattle.resampler.specs.Claims.{CasesHold, ThirtySupported, IncrementsReach, OpeningFixed}
+use Rattle.resampler.specs.Claims.{CasesHold, ThirtySupported, IncrementsReach, OutcomesFixed}
 
 -- both sides compute to one list of lists
 pub cases-hold : CasesHold
@@ -53,6 +54,6 @@ unfolding
     IncrementsReach Pairs.thirty Pairs.filter Pairs.path Pairs.up2x Pairs.raised Pairs.increment mathlib.Core.List.flatMap
 increments-reach = refl
 
-pub opening-fixed : OpeningFixed
-unfolding OpeningFixed
-opening-fixed inHz outHz forEnc = fixed (openOutcome inHz outHz forEnc)
+pub outcomes-fixed : OutcomesFixed
+unfolding OutcomesFixed
+outcomes-fixed = (λ inHz outHz forEnc. fixed (openOutcome inHz outHz forEnc), λ s block. fixed (parkOutcome s block))

@@ -8,3 +8,5 @@ pub mod Laying
 pub mod Entries
 pub mod Live
 pub mod Passes
+pub mod Steady
+pub mod Body

@@ -1,15 +1,17 @@
 -- What is claimed of the definitions, a sentence and a statement each. The proofs stand in proofs/Claims.antt.
 use mathlib.Core.Path.{_≡_}
 use mathlib.Core.Bool.{Bool, true}
-use mathlib.Core.List.{map}
-use Prim.Native.Nat.{_*_, _/_, _^_}
+use mathlib.Core.List.{List, map}
+use Prim.Native.Nat.{ℕ, _*_, _/_, _^_}
 use lib.Dec.{leb}
 use lib.IntN.{ℤ}
 use lib.ListN.{length}
 use Rattle.stages.specs.Lists.{every}
 use Rattle.stages.specs.Claims.{Fixed}
 use Rattle.resampler.specs.Pairs.{Pair, supported, thirty, path, up2x, increment}
+use Rattle.resampler.specs.declared.Record.{Record}
 use Rattle.resampler.specs.Entry.{openOutcome}
+use Rattle.resampler.specs.Block.{parkOutcome}
 use Rattle.resampler.specs.Cases.{cases}
 
 -- the definitions give what every marked case says
@@ -27,6 +29,6 @@ reaches p = leb (1000 * p .inKhz * 2 ^ up2x (path p)) (increment p * (1000 * p .
 unfoldable pub IncrementsReach : Type 0
 IncrementsReach = every reaches thirty ≡ true
 
--- the promise of opening fixes all that it leaves: two outcomes that it allows are one, refused or done
-unfoldable pub OpeningFixed : Type 0
-OpeningFixed = (inHz outHz forEnc : ℤ) → Fixed (openOutcome inHz outHz forEnc)
+-- the promises of opening and parking fix all that these leave: two outcomes that they allow are one, refused or done
+unfoldable pub OutcomesFixed : Type 0
+OutcomesFixed = ((inHz outHz forEnc : ℤ) → Fixed (openOutcome inHz outHz forEnc)) × ((s : Record) (block : List ℕ) → Fixed (parkOutcome s block))

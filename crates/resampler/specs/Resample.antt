@@ -1,5 +1,6 @@
 -- A call of the resampler: its signal, its two passes, and what a batch makes. Assumes nothing.
-use Prim.Native.Nat.{ℕ, _*_, _/_}
+use mathlib.Core.Path.{_≡_}
+use Prim.Native.Nat.{ℕ, _*_, _/_, _%_, _≤_}
 use mathlib.Core.List.{List, [], _++_}
 use lib.IntN.{ℤ}
 use lib.ListN.{length, take, drop}
@@ -8,7 +9,8 @@ use Rattle.stages.specs.Run.{passOut, passEnd}
 use Rattle.stages.specs.Stage.Ar2.{ar2End}
 use Rattle.stages.specs.Stage.Up2Hq.{up2, up2End}
 use Rattle.stages.specs.Stage.IirFir.{iirFir, iirFirCarried}
-use Rattle.stages.specs.Stage.DownFir.{downFir, downFirCarried}
+use Rattle.stages.specs.Reader.{Steady, outputs}
+use Rattle.stages.specs.Stage.DownFir.{Filter, downFir, downFirCarried}
 use Rattle.resampler.specs.declared.Record.{Record}
 use Rattle.resampler.specs.Pairs.{Pair, Path, copy, doubler, interpolator, down, path, increment}
 use Rattle.resampler.specs.Record.{Words, arrays, pairOf, live, liveDelay, keeping, recordOf}
@@ -57,6 +59,20 @@ passWords p = passEnd (batchNext p) (batchSize p)
 -- the record after it, with the delay samples as they were
 unfoldable pub passed : Record → List ℤ → Record
 passed s xs = keeping (pairOf s) (passWords (pairOf s) (live s) xs) (s .delay)
+
+-- what a pass asks of its rates, input and output: whole milliseconds, and room for what they make
+pub record Taking (r : Rates) (input out : List ℤ) : Type 0 where
+  pub whole : length input % r .inKhz ≡ 0
+  pub room : outputs r (length input) ≤ length out
+
+-- and of a record on the path of a down filter
+pub record Lowering (g : Filter) (s : Record) (r : Rates) : Type 0 where
+  pub onDown : path (pairOf s) ≡ down g
+  pub rates : r ≡ ratesOf (pairOf s)
+  pub steady : Steady (r .inKhz) r
+  pub few : r .outKhz ≤ 48
+  pub ar2 : length (s .ar2) ≡ 2
+  pub fir : length (s .fir) ≡ 36
 
 -- ---- a call
 

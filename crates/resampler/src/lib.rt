@@ -4,10 +4,13 @@ mod block;
 mod entries;
 mod init;
 pub mod pairs;
+mod parking;
 mod resample;
 
 pub use init::Opened;
 pub use init::silk_resampler_init;
+pub use parking::Parked;
+pub use parking::park;
 
 // A line's whole state, by value: its pair, and every word and sample that any path can carry.
 // Which of them a pair uses is said in specs/Record.antt; the others are zero.

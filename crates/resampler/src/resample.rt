@@ -4,15 +4,16 @@ use crate::Record;
 use stages::DownWords;
 use stages::IirFirWords;
 use stages::Rates;
+use stages::rom;
 ghost use mathlib.Core.Path.{_≡_};
 ghost use Prim.Native.Nat.{_*_, _%_, _<_, _≤_};
 ghost use lib.ListN.{length};
 ghost use Rattle.stages.specs.Outcome.{Staged};
 ghost use Rattle.stages.specs.Reader.{Steady, outputs};
-ghost use Rattle.stages.specs.Stage.DownFir.{Fitting, filterOf};
+ghost use Rattle.stages.specs.Stage.DownFir.{Fitting, filterOf, down-3/4, down-2/3, down-1/2, down-1/3, down-1/4, down-1/6};
 ghost use Rattle.resampler.specs.Pairs as Pairs;
 ghost use Rattle.resampler.specs.Record.{pairOf, live};
-ghost use Rattle.resampler.specs.Resample.{ratesOf, pass as passing, passed};
+ghost use Rattle.resampler.specs.Resample.{ratesOf, pass as passing, passed, Lowering, Taking};
 
 // The record with these words, and its pair and delay samples as they were.
 fn with_words(
@@ -90,4 +91,72 @@ fn down_pass(
     let a = after.ar2;
     let f = after.fir;
     with_words(s, [0i32; 6], [0i16; 8], a, f)
+}
+
+// The six down filters, each with its table.
+fn down_3_4(s: Record, r: Rates, out: &mut [i16], input: &[i16]) -> Record
+    requires { ⌜ Lowering down-3/4 s r × Taking r (now input) (now out) ⌝ }
+    ensures { λ q. ⌜ Staged (passing (pairOf s) (live s) (now (input .entry))) (passed s (now (input .entry))) (now (out .entry)) (now (out .exit)) q ⌝ }
+{
+    down_pass(s, r, &rom::silk_Resampler_3_4_COEFS, 18, 3, out, input)
+}
+
+fn down_2_3(s: Record, r: Rates, out: &mut [i16], input: &[i16]) -> Record
+    requires { ⌜ Lowering down-2/3 s r × Taking r (now input) (now out) ⌝ }
+    ensures { λ q. ⌜ Staged (passing (pairOf s) (live s) (now (input .entry))) (passed s (now (input .entry))) (now (out .entry)) (now (out .exit)) q ⌝ }
+{
+    down_pass(s, r, &rom::silk_Resampler_2_3_COEFS, 18, 2, out, input)
+}
+
+fn down_1_2(s: Record, r: Rates, out: &mut [i16], input: &[i16]) -> Record
+    requires { ⌜ Lowering down-1/2 s r × Taking r (now input) (now out) ⌝ }
+    ensures { λ q. ⌜ Staged (passing (pairOf s) (live s) (now (input .entry))) (passed s (now (input .entry))) (now (out .entry)) (now (out .exit)) q ⌝ }
+{
+    down_pass(s, r, &rom::silk_Resampler_1_2_COEFS, 24, 1, out, input)
+}
+
+fn down_1_3(s: Record, r: Rates, out: &mut [i16], input: &[i16]) -> Record
+    requires { ⌜ Lowering down-1/3 s r × Taking r (now input) (now out) ⌝ }
+    ensures { λ q. ⌜ Staged (passing (pairOf s) (live s) (now (input .entry))) (passed s (now (input .entry))) (now (out .entry)) (now (out .exit)) q ⌝ }
+{
+    down_pass(s, r, &rom::silk_Resampler_1_3_COEFS, 36, 1, out, input)
+}
+
+fn down_1_4(s: Record, r: Rates, out: &mut [i16], input: &[i16]) -> Record
+    requires { ⌜ Lowering down-1/4 s r × Taking r (now input) (now out) ⌝ }
+    ensures { λ q. ⌜ Staged (passing (pairOf s) (live s) (now (input .entry))) (passed s (now (input .entry))) (now (out .entry)) (now (out .exit)) q ⌝ }
+{
+    down_pass(s, r, &rom::silk_Resampler_1_4_COEFS, 36, 1, out, input)
+}
+
+fn down_1_6(s: Record, r: Rates, out: &mut [i16], input: &[i16]) -> Record
+    requires { ⌜ Lowering down-1/6 s r × Taking r (now input) (now out) ⌝ }
+    ensures { λ q. ⌜ Staged (passing (pairOf s) (live s) (now (input .entry))) (passed s (now (input .entry))) (now (out .entry)) (now (out .exit)) q ⌝ }
+{
+    down_pass(s, r, &rom::silk_Resampler_1_6_COEFS, 36, 1, out, input)
+}
+
+// A lower rate: the filter is picked by the ratio of the two.
+fn down(s: Record, r: Rates, out: &mut [i16], input: &[i16]) -> Record
+    requires { ⌜ Lowering (Pairs.filter (pairOf s)) s r × Taking r (now input) (now out) ⌝ }
+    ensures { λ q. ⌜ Staged (passing (pairOf s) (live s) (now (input .entry))) (passed s (now (input .entry))) (now (out .entry)) (now (out .exit)) q ⌝ }
+{
+    let i = r.inKhz;
+    let o = r.outKhz;
+    if o * 4 == i * 3 {
+        return down_3_4(s, r, out, input);
+    }
+    if o * 3 == i * 2 {
+        return down_2_3(s, r, out, input);
+    }
+    if o * 2 == i {
+        return down_1_2(s, r, out, input);
+    }
+    if o * 3 == i {
+        return down_1_3(s, r, out, input);
+    }
+    if o * 4 == i {
+        return down_1_4(s, r, out, input);
+    }
+    down_1_6(s, r, out, input)
 }

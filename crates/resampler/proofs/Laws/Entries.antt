@@ -8,16 +8,16 @@ use native.Mathlib.Omega.{arith}
 use borrow.Author.Tests.{leb-true}
 use lib.Dec.{leb}
 use lib.IntN.{ℤ, pos}
-use lib.ListN.{length, take, set, replicate, length-replicate}
+use lib.ListN.{length, take, set, replicate, length-replicate, length-take}
 use lib.Seq.{length-take-le}
 use Rattle.fixed.specs.Choice.{if_then_else_}
 use Rattle.stages.specs.Lists.{padded}
 use Rattle.stages.specs.Stage.DownFir.{down-1/3, down-1/4, down-1/6}
-use Rattle.stages.proofs.Laws.Lists.{drop-none}
+use Rattle.stages.proofs.Laws.Lists.{drop-none, padded-length}
 use Rattle.stages.proofs.Laws.Loop.{Filling, fill-one}
 use Rattle.resampler.specs.declared.Record.{Record}
 use Rattle.resampler.specs.Pairs.{Pair, pair, supported, rate-id, delay, delay-matrix-enc, delay-matrix-dec, path, filter}
-use Rattle.resampler.specs.Record.{living, live, liveDelay, keeping, recordOf, cleaned}
+use Rattle.resampler.specs.Record.{pairOf, living, live, liveDelay, keeping, recordOf, cleaned}
 use Rattle.resampler.proofs.Laws.Pairs.{of-each}
 use Rattle.resampler.proofs.Laws.Place.{place-start, place-end}
 
@@ -65,6 +65,25 @@ cleaned-is s (d, m, a, f) l = λ i. record {
   fir = f i;
   delay = l i;
 }
+
+-- the lengths of a record's arrays
+abbrev pub Whole : Record → Type 0
+Whole s = (length (s .doubler) ≡ 6) × (length (s .samples) ≡ 8) × (length (s .ar2) ≡ 2) × (length (s .fir) ≡ 36) × (length (s .delay) ≡ 48)
+
+kept-length : (m k : ℕ) (xs : List ℤ) → length xs ≡ m → length (padded m (take k xs)) ≡ m
+kept-length m k xs h = padded-length m (take k xs) (omega (arith, length-take k xs))
+
+-- cleaning changes none of them
+pub cleaned-whole : (s : Record) → Whole s → Whole (cleaned s)
+unfolding live liveDelay keeping recordOf cleaned
+cleaned-whole s w =
+    let n = living (path (pairOf s)) in (
+      kept-length 6 (n .doubler) (s .doubler) (w .0),
+      kept-length 8 (n .samples) (s .samples) (w .1),
+      kept-length 2 (n .ar2) (s .ar2) (w .2),
+      kept-length 36 (n .fir) (s .fir) (w .3),
+      kept-length 48 (delay (pairOf s)) (s .delay) (w .4),
+    )
 
 -- ---- clearing
 

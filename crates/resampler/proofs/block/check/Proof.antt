@@ -20,7 +20,7 @@ loop-holds c = weigh-start _ (c .pre)
 turned : tie.Need-loop-again Inv-loop μ-loop
 turned c =
     let l = c .before .before .loop in
-    weigh-turn _ (c .before .loop-test .taken) (l .inv) (c .shared-slice-known .given (l .i) .fits)
+    weigh-turn _ (omega (arith, c .before .loop-test .taken)) (l .inv) (c .shared-slice-known .given (l .i) .fits)
 
 add-sum : tie.Need-add-sum Inv-loop μ-loop
 add-sum c = search needs
