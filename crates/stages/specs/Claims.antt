@@ -1,4 +1,4 @@
--- What is claimed of the promises, those of the entry points above all, a sentence and a statement each. The proofs stand in proofs/Claims.antt.
+-- What is claimed of the promises, a sentence and a statement each. The proofs stand in proofs/Claims.antt.
 use mathlib.Core.Path.{_≡_}
 use mathlib.Core.Bool.{_&&_}
 use Prim.Native.Nat.{ℕ, _/_}

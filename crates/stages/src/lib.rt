@@ -1,5 +1,5 @@
 // The stages of the SILK resampler, with the two decimators and the two-band split: samples and carried words in, samples
-// and carried words out, no rates and no records. Each file has the name of the Rust's; `allpass`, `answer`, `rates`,
+// and carried words out, no pairs and no records. Each file has the name of the Rust's; `allpass`, `answer`, `rates`,
 // `taps` and `words` are ours; the word arithmetic is the crate `fixed`.
 mod allpass;
 mod ana_filt_bank_1;
