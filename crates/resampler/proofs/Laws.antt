@@ -8,5 +8,10 @@ pub mod Laying
 pub mod Entries
 pub mod Live
 pub mod Passes
+pub mod Paths
+pub mod Words
+pub mod Count
+pub mod Call
+pub mod Rows
 pub mod Steady
 pub mod Body

@@ -1,6 +1,7 @@
 -- A call of the resampler: its signal, its two passes, and what a batch makes. Assumes nothing.
 use mathlib.Core.Path.{_≡_}
-use Prim.Native.Nat.{ℕ, _*_, _/_, _%_, _≤_}
+use Prim.Native.Nat.{ℕ, _*_, _/_, _%_, _<_, _≤_}
+use mathlib.Core.Bool.{true}
 use mathlib.Core.List.{List, [], _++_}
 use lib.IntN.{ℤ}
 use lib.ListN.{length, take, drop}
@@ -12,7 +13,7 @@ use Rattle.stages.specs.Stage.IirFir.{iirFir, iirFirCarried}
 use Rattle.stages.specs.Reader.{Steady, outputs}
 use Rattle.stages.specs.Stage.DownFir.{Filter, downFir, downFirCarried}
 use Rattle.resampler.specs.declared.Record.{Record}
-use Rattle.resampler.specs.Pairs.{Pair, Path, copy, doubler, interpolator, down, path, increment}
+use Rattle.resampler.specs.Pairs.{Pair, Path, copy, doubler, interpolator, down, supported, path, increment}
 use Rattle.resampler.specs.Record.{Words, arrays, pairOf, live, liveDelay, keeping, recordOf}
 
 -- n samples of input are n / in-kHz milliseconds, and each makes out-kHz samples
@@ -79,6 +80,18 @@ pub record Lowering (g : Filter) (s : Record) (r : Rates) : Type 0 where
 -- the carried delay samples followed by the input: as many as the input are filtered, the others are carried on
 unfoldable pub signal : Record → List ℤ → List ℤ
 signal s xs = liveDelay s ++ xs
+
+-- what a call that is not refused has: a record of a supported pair, whole milliseconds, at least one, and room for what they make
+pub record Calling (s : Record) (n room : ℕ) : Type 0 where
+  pub pair : supported (pairOf s) ≡ true
+  pub whole : n % s .inKhz ≡ 0
+  pub some : 0 < n
+  pub fits : made (pairOf s) n ≤ room
+  pub doubler : length (s .doubler) ≡ 6
+  pub samples : length (s .samples) ≡ 8
+  pub ar2 : length (s .ar2) ≡ 2
+  pub fir : length (s .fir) ≡ 36
+  pub delay : length (s .delay) ≡ 48
 
 -- the first millisecond of what is filtered, and the rest of it: a pass each
 unfoldable pub first : Record → List ℤ → List ℤ

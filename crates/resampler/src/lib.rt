@@ -5,12 +5,15 @@ mod entries;
 mod init;
 pub mod pairs;
 mod parking;
+mod passes;
 mod resample;
 
 pub use init::Opened;
 pub use init::silk_resampler_init;
 pub use parking::Parked;
 pub use parking::park;
+pub use resample::Resampled;
+pub use resample::silk_resampler;
 
 // A line's whole state, by value: its pair, and every word and sample that any path can carry.
 // Which of them a pair uses is said in specs/Record.antt; the others are zero.

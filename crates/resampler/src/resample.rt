@@ -1,162 +1,114 @@
-// A pass of a line over whole milliseconds, on each path. From silk_resampler of silk/resampler/mod.rs. Meaning:
-// specs/Resample.antt. Each takes the record and returns it with the path's words moved on and all others zero.
+// A call: whole milliseconds in, whole milliseconds out, in two passes. From silk_resampler of silk/resampler/mod.rs. Meaning:
+// specs/Resample.antt and specs/Entry.antt. Unlike the Rust, this refuses what it can't convert, and the record goes by value.
 use crate::Record;
-use stages::DownWords;
-use stages::IirFirWords;
-use stages::Rates;
-use stages::rom;
+use crate::pairs;
+use crate::passes;
+use stages::Answer;
 ghost use mathlib.Core.Path.{_≡_};
-ghost use Prim.Native.Nat.{_*_, _%_, _<_, _≤_};
+ghost use Prim.Native.Nat.{_≤_};
 ghost use lib.ListN.{length};
-ghost use Rattle.stages.specs.Outcome.{Staged};
-ghost use Rattle.stages.specs.Reader.{Steady, outputs};
-ghost use Rattle.stages.specs.Stage.DownFir.{Fitting, filterOf, down-3/4, down-2/3, down-1/2, down-1/3, down-1/4, down-1/6};
+ghost use Rattle.stages.specs.Lists.{padded};
+ghost use Rattle.stages.specs.Outcome.{outcome, Staged};
+ghost use Rattle.resampler.specs.Entry as Entry;
 ghost use Rattle.resampler.specs.Pairs as Pairs;
+ghost use Rattle.resampler.specs.Pairs.{pair};
 ghost use Rattle.resampler.specs.Record.{pairOf, live};
-ghost use Rattle.resampler.specs.Resample.{ratesOf, pass as passing, passed, Lowering, Taking};
+ghost use Rattle.resampler.specs.Resample.{pass as passing, passed, first, converted, after, Calling};
 
-// The record with these words, and its pair and delay samples as they were.
-fn with_words(
-    s: Record,
-    doubler: [i32; 6],
-    samples: [i16; 8],
-    ar2: [i32; 2],
-    fir: [i32; 36],
-) -> Record
-    ensures { λ r. ⌜ r ≡ record { direction = s .direction; inKhz = s .inKhz; outKhz = s .outKhz; doubler = doubler; samples = samples; ar2 = ar2; fir = fir; delay = s .delay } ⌝ }
+// What a call answers, and the record after it: the one given where it is refused.
+pub struct Resampled {
+    pub answer: Answer,
+    pub record: Record,
+}
+
+// Converts whole milliseconds, at most a thousand of them. Unlike the Rust, which panics, this refuses what it can't convert.
+pub fn silk_resampler(s: Record, out: &mut [i16], input: &[i16]) -> Resampled
+    ensures { λ r. ⌜ outcome (r .answer) (r .record) (now (out .exit)) ≡ Entry.resampleOutcome s (now (input .entry)) (now (out .entry)) ⌝ }
 {
-    let delay = s.delay;
+    let inKhz = s.inKhz as usize;
+    let outKhz = s.outKhz as usize;
+    let row = row_of(s.direction as usize, inKhz, outKhz, input.len(), out.len());
+    if row != 0 {
+        return Resampled {
+            answer: Answer::Refused(row),
+            record: s,
+        };
+    }
+    let written = input.len() / inKhz * outKhz;
+    let record = call(s, out, input);
+    Resampled {
+        answer: Answer::Done { written },
+        record,
+    }
+}
+
+// The first refusal that applies to n samples of input and this room, or 0.
+fn row_of(direction: usize, inKhz: usize, outKhz: usize, n: usize, room: usize) -> u8
+    ensures { λ r. ⌜ r ≡ Entry.resampleRow (pair direction inKhz outKhz) n room ⌝ }
+{
+    if !pairs::supported(direction, inKhz, outKhz) {
+        return 2;
+    }
+    if n == 0 {
+        return 3;
+    }
+    if n % inKhz != 0 {
+        return 3;
+    }
+    if 1000 * inKhz < n {
+        return 4;
+    }
+    if room < n / inKhz * outKhz {
+        return 5;
+    }
+    0
+}
+
+// A call that is not refused: the first millisecond, the rest of what is filtered, and what is carried over.
+fn call(s: Record, out: &mut [i16], input: &[i16]) -> Record
+    requires { ⌜ Calling s (length (now input)) (length (now out)) ⌝ }
+    ensures { λ q. ⌜ Staged (converted s (now (input .entry))) (after s (now (input .entry))) (now (out .entry)) (now (out .exit)) q ⌝ }
+{
+    let inKhz = s.inKhz as usize;
+    let outKhz = s.outKhz as usize;
+    let d = pairs::delay(s.direction as usize, inKhz, outKhz);
+    let b = first_pass(s, d, out, input);
+    let end = input.len() - d;
+    let t = passes::pass(b, &mut out[outKhz..], &input[inKhz - d..end]);
+    carrying(t, &input[end..])
+}
+
+// The first millisecond: the samples carried over, d of them, and as many of the input as it lacks.
+fn first_pass(s: Record, d: usize, out: &mut [i16], input: &[i16]) -> Record
+    requires { ⌜ Calling s (length (now input)) (length (now out)) × (d ≡ Pairs.delay (pairOf s)) ⌝ }
+    requires { ⌜ (d ≤ s .inKhz) × (s .inKhz ≤ 48) × (s .inKhz ≤ length (now input)) × (length (s .delay) ≡ 48) ⌝ }
+    ensures { λ q. let xs = first s (now (input .entry)) in ⌜ Staged (passing (pairOf s) (live s) xs) (passed s xs) (now (out .entry)) (now (out .exit)) q ⌝ }
+{
+    let inKhz = s.inKhz as usize;
+    let mut buf = s.delay;
+    stages::copy_samples(&mut buf[d..inKhz], &input[..inKhz - d]);
+    passes::pass(s, out, &buf[..inKhz])
+}
+
+// The record with these samples carried over.
+fn carrying(s: Record, samples: &[i16]) -> Record
+    requires { ⌜ length (now samples) ≤ 48 ⌝ }
+    ensures { λ r. ⌜ r ≡ record { direction = s .direction; inKhz = s .inKhz; outKhz = s .outKhz; doubler = s .doubler; samples = s .samples; ar2 = s .ar2; fir = s .fir; delay = padded 48 (now (samples .entry)) } ⌝ }
+{
+    let mut delay = [0i16; 48];
+    stages::copy_samples(&mut delay, samples);
+    let doubler = s.doubler;
+    let x = s.samples;
+    let ar2 = s.ar2;
+    let fir = s.fir;
     Record {
         direction: s.direction,
         inKhz: s.inKhz,
         outKhz: s.outKhz,
         doubler,
-        samples,
+        samples: x,
         ar2,
         fir,
         delay,
     }
-}
-
-fn copy_pass(s: Record, out: &mut [i16], input: &[i16]) -> Record
-    requires { ⌜ (0 < s .inKhz) × (Pairs.path (pairOf s) ≡ Pairs.copy) × (length (now input) ≤ length (now out)) ⌝ }
-    ensures { λ r. ⌜ Staged (passing (pairOf s) (live s) (now (input .entry))) (passed s (now (input .entry))) (now (out .entry)) (now (out .exit)) r ⌝ }
-{
-    stages::copy_samples(out, input);
-    with_words(s, [0i32; 6], [0i16; 8], [0i32; 2], [0i32; 36])
-}
-
-fn doubler_pass(s: Record, out: &mut [i16], input: &[i16]) -> Record
-    requires { ⌜ (0 < s .inKhz) × (Pairs.path (pairOf s) ≡ Pairs.doubler) × (length (s .doubler) ≡ 6) × (2 * length (now input) ≤ length (now out)) ⌝ }
-    ensures { λ r. ⌜ Staged (passing (pairOf s) (live s) (now (input .entry))) (passed s (now (input .entry))) (now (out .entry)) (now (out .exit)) r ⌝ }
-{
-    let given = s.doubler;
-    let doubler = stages::silk_resampler_private_up2_HQ(given, out, input);
-    with_words(s, doubler, [0i16; 8], [0i32; 2], [0i32; 36])
-}
-
-fn interpolator_pass(s: Record, r: Rates, out: &mut [i16], input: &[i16]) -> Record
-    requires { ⌜ (Pairs.path (pairOf s) ≡ Pairs.interpolator) × (r ≡ ratesOf (pairOf s)) × (length (s .doubler) ≡ 6) × (length (s .samples) ≡ 8) ⌝ }
-    requires { ⌜ Steady (2 * r .inKhz) r × (r .inKhz ≤ 16) × (length (now input) % r .inKhz ≡ 0) × (outputs r (length (now input)) ≤ length (now out)) ⌝ }
-    ensures { λ q. ⌜ Staged (passing (pairOf s) (live s) (now (input .entry))) (passed s (now (input .entry))) (now (out .entry)) (now (out .exit)) q ⌝ }
-{
-    let doubler = s.doubler;
-    let samples = s.samples;
-    let w = IirFirWords { doubler, samples };
-    let q = stages::silk_resampler_private_IIR_FIR(r, w, out, input);
-    let after = q.words;
-    let d = after.doubler;
-    let x = after.samples;
-    with_words(s, d, x, [0i32; 2], [0i32; 36])
-}
-
-fn down_pass(
-    s: Record,
-    r: Rates,
-    cs: &[i16],
-    order: usize,
-    rows: usize,
-    out: &mut [i16],
-    input: &[i16],
-) -> Record
-    requires { ⌜ (Pairs.path (pairOf s) ≡ Pairs.down (filterOf order (now cs))) × (r ≡ ratesOf (pairOf s)) × (length (s .ar2) ≡ 2) × (length (s .fir) ≡ 36) ⌝ }
-    requires { ⌜ Fitting order rows (now cs) × Steady (r .inKhz) r × (length (now input) % r .inKhz ≡ 0) × (outputs r (length (now input)) ≤ length (now out)) ⌝ }
-    ensures { λ q. ⌜ Staged (passing (pairOf s) (live s) (now (input .entry))) (passed s (now (input .entry))) (now (out .entry)) (now (out .exit)) q ⌝ }
-{
-    let ar2 = s.ar2;
-    let fir = s.fir;
-    let w = DownWords { ar2, fir };
-    let q = stages::silk_resampler_private_down_FIR(r, cs, order, rows, w, out, input);
-    let after = q.words;
-    let a = after.ar2;
-    let f = after.fir;
-    with_words(s, [0i32; 6], [0i16; 8], a, f)
-}
-
-// The six down filters, each with its table.
-fn down_3_4(s: Record, r: Rates, out: &mut [i16], input: &[i16]) -> Record
-    requires { ⌜ Lowering down-3/4 s r × Taking r (now input) (now out) ⌝ }
-    ensures { λ q. ⌜ Staged (passing (pairOf s) (live s) (now (input .entry))) (passed s (now (input .entry))) (now (out .entry)) (now (out .exit)) q ⌝ }
-{
-    down_pass(s, r, &rom::silk_Resampler_3_4_COEFS, 18, 3, out, input)
-}
-
-fn down_2_3(s: Record, r: Rates, out: &mut [i16], input: &[i16]) -> Record
-    requires { ⌜ Lowering down-2/3 s r × Taking r (now input) (now out) ⌝ }
-    ensures { λ q. ⌜ Staged (passing (pairOf s) (live s) (now (input .entry))) (passed s (now (input .entry))) (now (out .entry)) (now (out .exit)) q ⌝ }
-{
-    down_pass(s, r, &rom::silk_Resampler_2_3_COEFS, 18, 2, out, input)
-}
-
-fn down_1_2(s: Record, r: Rates, out: &mut [i16], input: &[i16]) -> Record
-    requires { ⌜ Lowering down-1/2 s r × Taking r (now input) (now out) ⌝ }
-    ensures { λ q. ⌜ Staged (passing (pairOf s) (live s) (now (input .entry))) (passed s (now (input .entry))) (now (out .entry)) (now (out .exit)) q ⌝ }
-{
-    down_pass(s, r, &rom::silk_Resampler_1_2_COEFS, 24, 1, out, input)
-}
-
-fn down_1_3(s: Record, r: Rates, out: &mut [i16], input: &[i16]) -> Record
-    requires { ⌜ Lowering down-1/3 s r × Taking r (now input) (now out) ⌝ }
-    ensures { λ q. ⌜ Staged (passing (pairOf s) (live s) (now (input .entry))) (passed s (now (input .entry))) (now (out .entry)) (now (out .exit)) q ⌝ }
-{
-    down_pass(s, r, &rom::silk_Resampler_1_3_COEFS, 36, 1, out, input)
-}
-
-fn down_1_4(s: Record, r: Rates, out: &mut [i16], input: &[i16]) -> Record
-    requires { ⌜ Lowering down-1/4 s r × Taking r (now input) (now out) ⌝ }
-    ensures { λ q. ⌜ Staged (passing (pairOf s) (live s) (now (input .entry))) (passed s (now (input .entry))) (now (out .entry)) (now (out .exit)) q ⌝ }
-{
-    down_pass(s, r, &rom::silk_Resampler_1_4_COEFS, 36, 1, out, input)
-}
-
-fn down_1_6(s: Record, r: Rates, out: &mut [i16], input: &[i16]) -> Record
-    requires { ⌜ Lowering down-1/6 s r × Taking r (now input) (now out) ⌝ }
-    ensures { λ q. ⌜ Staged (passing (pairOf s) (live s) (now (input .entry))) (passed s (now (input .entry))) (now (out .entry)) (now (out .exit)) q ⌝ }
-{
-    down_pass(s, r, &rom::silk_Resampler_1_6_COEFS, 36, 1, out, input)
-}
-
-// A lower rate: the filter is picked by the ratio of the two.
-fn down(s: Record, r: Rates, out: &mut [i16], input: &[i16]) -> Record
-    requires { ⌜ Lowering (Pairs.filter (pairOf s)) s r × Taking r (now input) (now out) ⌝ }
-    ensures { λ q. ⌜ Staged (passing (pairOf s) (live s) (now (input .entry))) (passed s (now (input .entry))) (now (out .entry)) (now (out .exit)) q ⌝ }
-{
-    let i = r.inKhz;
-    let o = r.outKhz;
-    if o * 4 == i * 3 {
-        return down_3_4(s, r, out, input);
-    }
-    if o * 3 == i * 2 {
-        return down_2_3(s, r, out, input);
-    }
-    if o * 2 == i {
-        return down_1_2(s, r, out, input);
-    }
-    if o * 3 == i {
-        return down_1_3(s, r, out, input);
-    }
-    if o * 4 == i {
-        return down_1_4(s, r, out, input);
-    }
-    down_1_6(s, r, out, input)
 }

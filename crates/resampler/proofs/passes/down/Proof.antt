@@ -1,4 +1,4 @@
--- `resampler::resample::down` meets its contract: each test is the definition's, and the filter that it finds is the one called.
+-- `resampler::passes::down` meets its contract: each test is the definition's, and the filter that it finds is the one called.
 -- Assumes nothing.
 use mathlib.Core.Path.{_≡_, subst}
 use borrow.Author.Needs.{needs}
@@ -7,8 +7,8 @@ use Rattle.resampler.specs.Pairs.{filter}
 use Rattle.resampler.specs.Record.{pairOf}
 use Rattle.resampler.specs.Resample.{Lowering}
 use Rattle.resampler.proofs.Laws.Steady.{filter-3/4, filter-2/3, filter-1/2, filter-1/3, filter-1/4, filter-1/6}
-use Rattle.resampler.proofs.resample.down.Statement.{statement}
-use Rattle.resampler.proofs.resample.down.Tie as tie
+use Rattle.resampler.proofs.passes.down.Statement.{statement}
+use Rattle.resampler.proofs.passes.down.Tie as tie
 
 -- what is asked of a record on the path of the filter that was found
 found : (s : tie.Start) {g : Filter} → filter (pairOf (s .args .s)) ≡ g → Lowering g (s .args .s) (s .args .r)

@@ -1,4 +1,4 @@
--- `resampler::resample::copy_pass` meets its contract: a pass on equal rates is its input, and leaves no words.
+-- `resampler::passes::copy_pass` meets its contract: a pass on equal rates is its input, and leaves no words.
 -- Assumes nothing.
 use mathlib.Core.Path.{refl}
 use mathlib.Core.List.{[]}
@@ -8,8 +8,8 @@ use Rattle.resampler.specs.Record.{keeping, pairOf, arrays}
 use Rattle.resampler.specs.Resample.{passed}
 use Rattle.resampler.proofs.Laws.Live.{live-copy}
 use Rattle.resampler.proofs.Laws.Passes.{unused, copied}
-use Rattle.resampler.proofs.resample.copy_pass.Statement.{statement}
-use Rattle.resampler.proofs.resample.copy_pass.Tie as tie
+use Rattle.resampler.proofs.passes.copy_pass.Statement.{statement}
+use Rattle.resampler.proofs.passes.copy_pass.Tie as tie
 
 copy-samples-requires : tie.Need-copy-samples-requires
 copy-samples-requires c κs = search needs

@@ -1,4 +1,4 @@
--- `resampler::resample::down_pass` meets its contract: a pass of a down filter is the stage's at the pair's rates, and its dead words are zero.
+-- `resampler::passes::down_pass` meets its contract: a pass of a down filter is the stage's at the pair's rates, and its dead words are zero.
 -- Assumes nothing.
 use mathlib.Core.Path.{refl, ap, _∙_}
 use mathlib.Core.List.{List, []}
@@ -13,8 +13,8 @@ use Rattle.resampler.specs.Record.{keeping, pairOf, arrays}
 use Rattle.resampler.specs.Resample.{ratesOf, passed}
 use Rattle.resampler.proofs.Laws.Live.{live-down, padded-full}
 use Rattle.resampler.proofs.Laws.Passes.{unused, lowered, downEnd-length}
-use Rattle.resampler.proofs.resample.down_pass.Statement.{statement}
-use Rattle.resampler.proofs.resample.down_pass.Tie as tie
+use Rattle.resampler.proofs.passes.down_pass.Statement.{statement}
+use Rattle.resampler.proofs.passes.down_pass.Tie as tie
 
 silk-resampler-private-down-FIR-requires : tie.Need-silk-resampler-private-down-FIR-requires
 silk-resampler-private-down-FIR-requires c κs = search needs

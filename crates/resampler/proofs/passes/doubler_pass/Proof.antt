@@ -1,4 +1,4 @@
--- `resampler::resample::doubler_pass` meets its contract: a pass of the doubler is the doubler itself, and its six words are all that is left.
+-- `resampler::passes::doubler_pass` meets its contract: a pass of the doubler is the doubler itself, and its six words are all that is left.
 -- Assumes nothing.
 use mathlib.Core.Path.{refl, _∙_}
 use mathlib.Core.List.{[]}
@@ -10,8 +10,8 @@ use Rattle.resampler.specs.Record.{keeping, pairOf, arrays}
 use Rattle.resampler.specs.Resample.{passed}
 use Rattle.resampler.proofs.Laws.Live.{live-doubler, padded-full}
 use Rattle.resampler.proofs.Laws.Passes.{unused, doubled}
-use Rattle.resampler.proofs.resample.doubler_pass.Statement.{statement}
-use Rattle.resampler.proofs.resample.doubler_pass.Tie as tie
+use Rattle.resampler.proofs.passes.doubler_pass.Statement.{statement}
+use Rattle.resampler.proofs.passes.doubler_pass.Tie as tie
 
 silk-resampler-private-up2-HQ-requires : tie.Need-silk-resampler-private-up2-HQ-requires
 silk-resampler-private-up2-HQ-requires c κs = search needs

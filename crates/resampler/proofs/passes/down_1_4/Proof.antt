@@ -1,11 +1,11 @@
--- `resampler::resample::down_1_4` meets its contract: the table is the filter's, and fits its order.
+-- `resampler::passes::down_1_4` meets its contract: the table is the filter's, and fits its order.
 -- Assumes nothing.
 use mathlib.Core.Path.{refl}
 use native.Mathlib.Omega.{arith}
 use borrow.Author.Needs.{needs}
 use Rattle.stages.specs.Rom.{silk-Resampler-1-4-COEFS}
-use Rattle.resampler.proofs.resample.down_1_4.Statement.{statement}
-use Rattle.resampler.proofs.resample.down_1_4.Tie as tie
+use Rattle.resampler.proofs.passes.down_1_4.Statement.{statement}
+use Rattle.resampler.proofs.passes.down_1_4.Tie as tie
 
 slice-aggregate-down-pass : tie.Need-slice-aggregate-down-pass
 slice-aggregate-down-pass c = search needs

@@ -1,4 +1,4 @@
--- `resampler::resample::interpolator_pass` meets its contract: a pass of the interpolator is the stage's at the pair's rates.
+-- `resampler::passes::interpolator_pass` meets its contract: a pass of the interpolator is the stage's at the pair's rates.
 -- Assumes nothing.
 use mathlib.Core.Path.{refl, ap, _∙_}
 use mathlib.Core.List.{List, []}
@@ -11,8 +11,8 @@ use Rattle.resampler.specs.Record.{keeping, pairOf, arrays}
 use Rattle.resampler.specs.Resample.{ratesOf, passed}
 use Rattle.resampler.proofs.Laws.Live.{live-interpolator, padded-full}
 use Rattle.resampler.proofs.Laws.Passes.{unused, interpolated, iirFirEnd-length}
-use Rattle.resampler.proofs.resample.interpolator_pass.Statement.{statement}
-use Rattle.resampler.proofs.resample.interpolator_pass.Tie as tie
+use Rattle.resampler.proofs.passes.interpolator_pass.Statement.{statement}
+use Rattle.resampler.proofs.passes.interpolator_pass.Tie as tie
 
 silk-resampler-private-IIR-FIR-requires : tie.Need-silk-resampler-private-IIR-FIR-requires
 silk-resampler-private-IIR-FIR-requires c κs = search needs
