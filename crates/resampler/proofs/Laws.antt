@@ -3,6 +3,7 @@ pub mod Pairs
 pub mod Rates
 pub mod Bytes
 pub mod Check
+pub mod Scan
 pub mod Place
 pub mod Laying
 pub mod Entries
@@ -15,3 +16,4 @@ pub mod Call
 pub mod Rows
 pub mod Steady
 pub mod Body
+pub mod Resuming

@@ -1,14 +1,15 @@
-// Which entries of a record are live, and the record with the others zero. Meaning: specs/Record.antt.
+// Which entries of a record are live, the record with the others zero, and whether they are. Meaning: specs/Record.antt.
 use crate::Record;
 use crate::pairs;
 ghost use mathlib.Core.Path.{_≡_};
 ghost use mathlib.Core.Bool.{true};
 ghost use Prim.Native.Nat.{_≤_};
-ghost use lib.ListN.{length, take};
-ghost use Rattle.stages.specs.Lists.{padded};
+ghost use lib.ListN.{length, take, drop};
+ghost use Rattle.stages.specs.Lists.{padded, every};
 ghost use Rattle.resampler.specs.Pairs as Pairs;
 ghost use Rattle.resampler.specs.Pairs.{pair, path};
 ghost use Rattle.resampler.specs.Record as Records;
+ghost use Rattle.resampler.specs.Block.{zero?};
 
 // How many entries of each array are live.
 pub struct Live {
@@ -50,6 +51,28 @@ pub fn cleaned(s: Record) -> Record
         fir,
         delay,
     }
+}
+
+// Whether the dead entries are zero.
+pub fn dead_zero(s: Record) -> bool
+    requires { ⌜ Pairs.supported (Records.pairOf s) ≡ true ⌝ }
+    requires { ⌜ (length (s .doubler) ≡ 6) × (length (s .samples) ≡ 8) × (length (s .ar2) ≡ 2) × (length (s .fir) ≡ 36) × (length (s .delay) ≡ 48) ⌝ }
+    ensures { λ r. ⌜ r ≡ every zero? (Records.dead s) ⌝ }
+{
+    let inKhz = s.inKhz as usize;
+    let outKhz = s.outKhz as usize;
+    let n = living(inKhz, outKhz);
+    let doubler = s.doubler;
+    let inDoubler = words_zero(&doubler, n.doubler);
+    let samples = s.samples;
+    let inSamples = samples_zero(&samples, n.samples);
+    let ar2 = s.ar2;
+    let inAr2 = words_zero(&ar2, n.ar2);
+    let fir = s.fir;
+    let inFir = words_zero(&fir, n.fir);
+    let delay = s.delay;
+    let inDelay = samples_zero(&delay, pairs::delay(s.direction as usize, inKhz, outKhz));
+    inDoubler & inSamples & inAr2 & inFir & inDelay
 }
 
 // Which entries a pair's path uses; the direction does not matter.
@@ -132,4 +155,32 @@ fn clear_samples(samples: &mut [i16], from: usize)
         samples[i] = 0;
         i += 1;
     }
+}
+
+// Whether those from a place to the end are zero.
+fn words_zero(words: &[i32], from: usize) -> bool
+    ensures { λ r. ⌜ r ≡ every zero? (drop from (now (words .entry))) ⌝ }
+{
+    let mut i = from;
+    while i < words.len() {
+        if words[i] != 0 {
+            return false;
+        }
+        i += 1;
+    }
+    true
+}
+
+// The same for samples.
+fn samples_zero(samples: &[i16], from: usize) -> bool
+    ensures { λ r. ⌜ r ≡ every zero? (drop from (now (samples .entry))) ⌝ }
+{
+    let mut i = from;
+    while i < samples.len() {
+        if samples[i] != 0 {
+            return false;
+        }
+        i += 1;
+    }
+    true
 }

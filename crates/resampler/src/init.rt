@@ -38,7 +38,7 @@ fn direction_of(forEnc: i32) -> usize
 }
 
 // A pair's record with every word and sample zero.
-fn fresh(direction: usize, inKhz: usize, outKhz: usize) -> Record
+pub fn fresh(direction: usize, inKhz: usize, outKhz: usize) -> Record
     requires { ⌜ (direction < 256) × (inKhz < 256) × (outKhz < 256) ⌝ }
     ensures { λ r. ⌜ r ≡ Records.fresh (pair direction inKhz outKhz) ⌝ }
 {

@@ -7,6 +7,7 @@ pub mod pairs;
 mod parking;
 mod passes;
 mod resample;
+mod resuming;
 
 pub use init::Opened;
 pub use init::silk_resampler_init;
@@ -14,6 +15,8 @@ pub use parking::Parked;
 pub use parking::park;
 pub use resample::Resampled;
 pub use resample::silk_resampler;
+pub use resuming::Resumed;
+pub use resuming::resume;
 
 // A line's whole state, by value: its pair, and every word and sample that any path can carry.
 // Which of them a pair uses is said in specs/Record.antt; the others are zero.

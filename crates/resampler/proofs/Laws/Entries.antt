@@ -1,25 +1,27 @@
 -- Which entries are live, for either direction; and the loop that clears the others: at each turn what is kept and cleared
 -- and the zeros to come are the whole. Assumes nothing.
-use mathlib.Core.Path.{_≡_, refl, _∙_}
-use mathlib.Core.Bool.{Bool, true, false}
+use mathlib.Core.Path.{_≡_, refl, sym, _∙_}
+use mathlib.Core.Bool.{Bool, true, false, _&&_}
 use mathlib.Core.List.{List, _++_, append-nil}
 use Prim.Native.Nat.{ℕ, suc, _+_, _-_, _<_, _≤_}
 use native.Mathlib.Omega.{arith}
 use borrow.Author.Tests.{leb-true}
 use lib.Dec.{leb}
 use lib.IntN.{ℤ, pos}
-use lib.ListN.{length, take, set, replicate, length-replicate, length-take}
+use lib.ListN.{length, take, drop, set, replicate, length-replicate, length-take}
 use lib.Seq.{length-take-le}
 use Rattle.fixed.specs.Choice.{if_then_else_}
-use Rattle.stages.specs.Lists.{padded}
+use Rattle.stages.specs.Lists.{padded, every}
 use Rattle.stages.specs.Stage.DownFir.{down-1/3, down-1/4, down-1/6}
 use Rattle.stages.proofs.Laws.Lists.{drop-none, padded-length}
 use Rattle.stages.proofs.Laws.Loop.{Filling, fill-one}
 use Rattle.resampler.specs.declared.Record.{Record}
 use Rattle.resampler.specs.Pairs.{Pair, pair, supported, rate-id, delay, delay-matrix-enc, delay-matrix-dec, path, filter}
-use Rattle.resampler.specs.Record.{pairOf, living, live, liveDelay, keeping, recordOf, cleaned}
+use Rattle.resampler.specs.Record.{pairOf, living, live, liveDelay, dead, keeping, recordOf, cleaned}
+use Rattle.resampler.specs.Block.{zero?}
 use Rattle.resampler.proofs.Laws.Pairs.{of-each}
 use Rattle.resampler.proofs.Laws.Place.{place-start, place-end}
+use Rattle.resampler.proofs.Laws.Scan.{every-five}
 
 -- ---- live entries
 
@@ -111,3 +113,22 @@ module _ (from : ℕ) (old : List ℤ) where
       let n = length old - from in
       place-end from _ old (c .within) n (length-replicate n (pos 0)) (rw e at (c .filling))
       ∙ rw (drop-none old (from + n) (omega (arith, c .within)), append-nil, length-take-le from old (c .within)) refl
+
+-- ---- looking whether they are cleared
+
+-- the number of live entries by another name
+pub looked : (xs : List ℤ) {n k : ℕ} {r : Bool} → n ≡ k → r ≡ every zero? (drop n xs) → r ≡ every zero? (drop k xs)
+looked xs h e = e ∙ (λ i. every zero? (drop (h i) xs))
+
+-- what each array shows is what the dead entries show
+pub dead-is : (s : Record) {inDoubler inSamples inAr2 inFir inDelay : Bool}
+    → (let n = living (path (pair 0 (s .inKhz) (s .outKhz))) in
+    (inDoubler ≡ every zero? (drop (n .doubler) (s .doubler))) × (inSamples ≡ every zero? (drop (n .samples) (s .samples)))
+    × (inAr2 ≡ every zero? (drop (n .ar2) (s .ar2))) × (inFir ≡ every zero? (drop (n .fir) (s .fir))))
+    → inDelay ≡ every zero? (drop (delay (pair (s .direction) (s .inKhz) (s .outKhz))) (s .delay))
+    → (inDoubler && inSamples && inAr2 && inFir && inDelay) ≡ every zero? (dead s)
+unfolding path filter dead
+dead-is s (d, m, a, f) l =
+    let n = living (path (pairOf s)) in
+    (λ i. d i && m i && a i && f i && l i)
+    ∙ sym (every-five zero? (drop (n .doubler) (s .doubler)) (drop (n .samples) (s .samples)) (drop (n .ar2) (s .ar2)) (drop (n .fir) (s .fir)) (drop (delay (pairOf s)) (s .delay)))
