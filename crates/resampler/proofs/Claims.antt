@@ -16,7 +16,7 @@ use Rattle.resampler.specs.Pairs as Pairs
 use Rattle.resampler.specs.Record as Record
 use Rattle.resampler.specs.Block as Block
 use Rattle.resampler.specs.Entry.{openOutcome}
-use Rattle.resampler.specs.Block.{parkOutcome}
+use Rattle.resampler.specs.Block.{parkOutcome, resumeOutcome}
 use Rattle.stages.proofs.Claims.{fixed}
 use Rattle.resampler.specs.Claims.{CasesHold, ThirtySupported, IncrementsReach, OutcomesFixed}
 
@@ -56,4 +56,8 @@ increments-reach = refl
 
 pub outcomes-fixed : OutcomesFixed
 unfolding OutcomesFixed
-outcomes-fixed = (λ inHz outHz forEnc. fixed (openOutcome inHz outHz forEnc), λ s block. fixed (parkOutcome s block))
+outcomes-fixed = (
+  λ inHz outHz forEnc. fixed (openOutcome inHz outHz forEnc),
+  λ s block. fixed (parkOutcome s block),
+  λ block. fixed (resumeOutcome block),
+)

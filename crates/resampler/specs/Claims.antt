@@ -11,7 +11,7 @@ use Rattle.stages.specs.Claims.{Fixed}
 use Rattle.resampler.specs.Pairs.{Pair, supported, thirty, path, up2x, increment}
 use Rattle.resampler.specs.declared.Record.{Record}
 use Rattle.resampler.specs.Entry.{openOutcome}
-use Rattle.resampler.specs.Block.{parkOutcome}
+use Rattle.resampler.specs.Block.{parkOutcome, resumeOutcome}
 use Rattle.resampler.specs.Cases.{cases}
 
 -- the definitions give what every marked case says
@@ -29,6 +29,7 @@ reaches p = leb (1000 * p .inKhz * 2 ^ up2x (path p)) (increment p * (1000 * p .
 unfoldable pub IncrementsReach : Type 0
 IncrementsReach = every reaches thirty ≡ true
 
--- the promises of opening and parking fix all that these leave: two outcomes that they allow are one, refused or done
+-- the promises of opening, parking and resuming fix all that these leave: two outcomes that they allow are one, refused or done
 unfoldable pub OutcomesFixed : Type 0
 OutcomesFixed = ((inHz outHz forEnc : ℤ) → Fixed (openOutcome inHz outHz forEnc)) × ((s : Record) (block : List ℕ) → Fixed (parkOutcome s block))
+    × ((block : List ℕ) → Fixed (resumeOutcome block))

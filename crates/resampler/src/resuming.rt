@@ -72,7 +72,7 @@ fn seal_row(block: &[u8]) -> u8
     if whole & known {
         return 0;
     }
-    if whole { 10 } else { 9 }
+    if !whole { 9 } else { 10 }
 }
 
 // The record that stands in a block, whatever it is.

@@ -1,10 +1,12 @@
 -- `resampler::resuming::seal_row` meets its contract: the stored check is compared with the sum before the layout is looked at.
 -- Assumes nothing.
 use mathlib.Core.Path.{_≡_, refl, sym, ap, _∙_}
+use mathlib.Core.Bool.{Bool, true, false}
 use mathlib.Core.List.{List}
 use Prim.Native.Nat.{ℕ}
 use native.Mathlib.Omega.{arith}
 use borrow.Author.Needs.{needs}
+use borrow.Author.Tests.{not-true, not-false}
 use denote.Ref.{now}
 use lib.Dec.{eqb}
 use lib.ListN.{drop, length-drop}
@@ -18,8 +20,11 @@ module _ (c : tie.After-check) where
   abbrev block : List ℕ
   block = now (c .before .before .before .args .block)
 
+  abbrev same : Bool
+  same = eqb (c .before .number .result) (c .check .result)
+
   -- the four bytes at the end are the stored check, and the sum the one that they are compared with
-  tested : eqb (c .before .number .result) (c .check .result) ≡ eqb (value (drop 508 block)) (check block)
+  tested : same ≡ eqb (value (drop 508 block)) (check block)
   tested =
       let all = take-all 4 (drop 508 block) (omega (arith, length-drop 508 block)) in
       let stored = c .before .number .ensures .0 ∙ ap value all in
@@ -41,14 +46,16 @@ returns c =
 
 returns-2 : tie.Need-returns-2
 returns-2 c =
-    let k = c .before .before in
-    let known = rw (c .if2 .taken) at (c .before .if1 .left) in
-    rw (sym (tested (k .before)) ∙ c .if2 .taken, known) refl
+    let k = c .before .before .before in
+    let whole : same k ≡ false = not-true _ (c .if2 .taken) in
+    rw (sym (tested k) ∙ whole) refl
 
 returns-3 : tie.Need-returns-3
 returns-3 c =
-    let k = c .before .before in
-    rw (sym (tested (k .before)) ∙ c .if2 .left) refl
+    let k = c .before .before .before in
+    let whole : same k ≡ true = not-false _ (c .if2 .left) in
+    let known = rw whole at (c .before .if1 .left) in
+    rw (sym (tested k) ∙ whole, known) refl
 
 pub seal-row-spec : {M : Type 1} → statement M
 seal-row-spec =
