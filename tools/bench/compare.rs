@@ -1,18 +1,21 @@
 //! Compares the stages with the Rust original and with libopus: every output sample and every carried word.
 //! Run: compare [SAMPLES], how many output samples to compare at the least.
 
+#[cfg(libopus)]
+#[allow(dead_code)]
+mod libopus;
+mod signals;
 #[allow(dead_code)]
 mod stage;
 #[path = "../oracle/values.rs"]
 mod values;
 
+use signals::{any_samples, SIGNALS};
 use stage::{stages, Implementation, Stage, NAMES};
 use values::Dice;
 
-type Signal = fn(usize, &mut Dice) -> Vec<i16>;
 type Word = fn(&mut Dice) -> i32;
 
-const SIGNALS: [Signal; 5] = [any_samples, full_scale, extreme_samples, impulse, silence];
 const WORDS: [Word; 3] = [zero_word, any_word, extreme_word];
 
 /// What an untouched place holds.
@@ -237,32 +240,4 @@ fn any_word(dice: &mut Dice) -> i32 {
 /// Near where 32 bits end.
 fn extreme_word(dice: &mut Dice) -> i32 {
     i32::MAX.wrapping_add(dice.between(-3, 4) as i32)
-}
-
-fn any_samples(length: usize, dice: &mut Dice) -> Vec<i16> {
-    (0..length).map(|_| dice.sample()).collect()
-}
-
-/// The largest and the smallest sample by turns.
-fn full_scale(length: usize, _: &mut Dice) -> Vec<i16> {
-    (0..length).map(|k| [i16::MAX, i16::MIN][k % 2]).collect()
-}
-
-/// The largest and the smallest sample in any order.
-fn extreme_samples(length: usize, dice: &mut Dice) -> Vec<i16> {
-    (0..length)
-        .map(|_| [i16::MAX, i16::MIN][dice.between(0, 1) as usize])
-        .collect()
-}
-
-fn impulse(length: usize, dice: &mut Dice) -> Vec<i16> {
-    let mut samples = vec![0; length];
-    if let Some(first) = samples.first_mut() {
-        *first = dice.sample();
-    }
-    samples
-}
-
-fn silence(length: usize, _: &mut Dice) -> Vec<i16> {
-    vec![0; length]
 }

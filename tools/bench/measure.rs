@@ -3,6 +3,9 @@
 //!      measure times: each stage's name and, for each implementation, nanoseconds for an output sample.
 //!      measure run STAGE IMPLEMENTATION CALLS, the first two by number: just the calls.
 
+#[cfg(libopus)]
+#[allow(dead_code)]
+mod libopus;
 #[allow(dead_code)]
 mod stage;
 #[allow(dead_code)]

@@ -538,34 +538,7 @@ impl Implementation for Original {
 #[cfg(libopus)]
 mod c {
     use super::{samples_of, Implementation, Kind, Stage};
-
-    /// A resampler as libopus holds it. The interpolator keeps its samples in the first words of `fir`, two in each.
-    #[repr(C)]
-    struct State {
-        iir: [i32; 6],
-        fir: [i32; 36],
-        delay: [i16; 48],
-        function: i32,
-        batch_size: i32,
-        increment: i32,
-        order: i32,
-        rows: i32,
-        in_khz: i32,
-        out_khz: i32,
-        input_delay: i32,
-        coefs: *const i16,
-    }
-
-    #[rustfmt::skip]
-    unsafe extern "C" {
-        fn silk_resampler_init(state: *mut State, in_hz: i32, out_hz: i32, for_enc: i32) -> i32;
-        fn silk_resampler_down2(words: *mut i32, out: *mut i16, input: *const i16, samples: i32);
-        fn silk_resampler_down2_3(words: *mut i32, out: *mut i16, input: *const i16, samples: i32);
-        fn silk_ana_filt_bank_1(input: *const i16, words: *mut i32, low: *mut i16, high: *mut i16, samples: i32);
-        fn silk_resampler_private_up2_HQ(words: *mut i32, out: *mut i16, input: *const i16, samples: i32);
-        fn silk_resampler_private_down_FIR(state: *mut State, out: *mut i16, input: *const i16, samples: i32);
-        fn silk_resampler_private_IIR_FIR(state: *mut State, out: *mut i16, input: *const i16, samples: i32);
-    }
+    use crate::libopus::*;
 
     pub struct Libopus {
         stage: Stage,
@@ -573,21 +546,12 @@ mod c {
     }
 
     impl Libopus {
-        /// The tables and the increment are those that libopus chooses for the pair.
         pub fn new(stage: Stage) -> Libopus {
-            // Numbers, and a pointer that may be null.
-            let mut state: State = unsafe { std::mem::zeroed() };
-            if matches!(stage.kind, Kind::Down(_) | Kind::Up(_)) {
-                let [from, to] = [stage.unit, stage.made].map(|khz| 1000 * khz as i32);
-                let refused =
-                    unsafe { silk_resampler_init(&mut state, from, to, (from == 48000) as i32) };
-                assert_eq!(refused, 0, "libopus opens {}", stage.name);
-                assert_eq!(
-                    [state.in_khz, state.out_khz, state.batch_size],
-                    [stage.unit, stage.made, 10 * stage.unit].map(|n| n as i32),
-                    "libopus lays its record out in another way"
-                );
-            }
+            let state = match stage.kind {
+                Kind::Down(_) | Kind::Up(_) => opened(stage.unit, stage.made, stage.unit == 48),
+                // Of these only the words are used.
+                _ => opened(8, 16, true),
+            };
             Libopus { stage, state }
         }
     }
@@ -604,12 +568,7 @@ mod c {
                 }
                 Kind::Up(_) => {
                     state.iir.copy_from_slice(&words[..6]);
-                    let samples = samples_of(&words[6..]);
-                    for k in 0..4 {
-                        let [low, high] =
-                            [samples[2 * k], samples[2 * k + 1]].map(|x| x as u16 as u32);
-                        state.fir[k] = (low | high << 16) as i32;
-                    }
+                    put_samples(&mut state.fir, samples_of(&words[6..]));
                 }
             }
         }
@@ -620,13 +579,7 @@ mod c {
                 Kind::Down2 | Kind::Split => state.iir[..2].to_vec(),
                 Kind::Down23 | Kind::Up2 => state.iir.to_vec(),
                 Kind::Down(filter) => [&state.iir[..2], &state.fir[..filter.order]].concat(),
-                Kind::Up(_) => {
-                    let mut words = state.iir.to_vec();
-                    for pair in &state.fir[..4] {
-                        words.extend([*pair as i16 as i32, pair >> 16]);
-                    }
-                    words
-                }
+                Kind::Up(_) => [&state.iir[..], &samples_in(&state.fir).map(i32::from)].concat(),
             }
         }
 

@@ -1,6 +1,7 @@
 // The stages as C functions, to be measured and compared from other languages. A slice is a pointer and a length; words go in
 // and out by value, in structs, for C passes no arrays so. What a stage would not take is refused here: nothing is
 // written, and the words come back as they were given.
+use resampler::Record;
 use stages::Answer;
 use stages::Rates;
 use stages::rom;
@@ -71,6 +72,14 @@ pub struct UpPass {
     pub words: UpWords,
 }
 
+// The row that refuses the call, or 0; how many samples were written; the record after them.
+#[repr(C)]
+pub struct Line {
+    pub row: u8,
+    pub written: usize,
+    pub record: Record,
+}
+
 // An answer in two numbers.
 struct Numbers {
     row: u8,
@@ -82,6 +91,43 @@ fn counted(a: Answer) -> Numbers {
         Answer::Done { written } => Numbers { row: 0, written },
         Answer::Refused(row) => Numbers { row, written: 0 },
     }
+}
+
+fn lined(a: Answer, record: Record) -> Line {
+    let n = counted(a);
+    Line {
+        row: n.row,
+        written: n.written,
+        record,
+    }
+}
+
+#[no_mangle]
+pub extern "C" fn probe_init(Fs_Hz_in: i32, Fs_Hz_out: i32, forEnc: i32) -> Line {
+    let o = resampler::silk_resampler_init(Fs_Hz_in, Fs_Hz_out, forEnc);
+    let answer = o.answer;
+    lined(answer, o.record)
+}
+
+#[no_mangle]
+pub extern "C" fn probe_resampler(record: Record, out: &mut [i16], input: &[i16]) -> Line {
+    let r = resampler::silk_resampler(record, out, input);
+    let answer = r.answer;
+    lined(answer, r.record)
+}
+
+#[no_mangle]
+pub extern "C" fn probe_park(record: Record, block: &mut [u8]) -> Line {
+    let p = resampler::park(record, block);
+    let answer = p.answer;
+    lined(answer, p.record)
+}
+
+#[no_mangle]
+pub extern "C" fn probe_resume(block: &[u8]) -> Line {
+    let r = resampler::resume(block);
+    let answer = r.answer;
+    lined(answer, r.record)
 }
 
 #[no_mangle]

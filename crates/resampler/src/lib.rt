@@ -20,6 +20,7 @@ pub use resuming::resume;
 
 // A line's whole state, by value: its pair, and every word and sample that any path can carry.
 // Which of them a pair uses is said in specs/Record.antt; the others are zero.
+#[repr(C)]
 pub struct Record {
     pub direction: u8,
     pub inKhz: u8,
