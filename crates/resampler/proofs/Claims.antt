@@ -18,7 +18,8 @@ use Rattle.resampler.specs.Block as Block
 use Rattle.resampler.specs.Entry.{openOutcome}
 use Rattle.resampler.specs.Block.{parkOutcome, resumeOutcome}
 use Rattle.stages.proofs.Claims.{fixed}
-use Rattle.resampler.specs.Claims.{CasesHold, ThirtySupported, IncrementsReach, OutcomesFixed}
+use Rattle.resampler.specs.Claims.{CasesHold, ThirtySupported, IncrementsReach, OutcomesFixed, ResumeParked, ParkResumed}
+use Rattle.resampler.proofs.Laws.RoundTrip as RoundTrip
 
 -- both sides compute to one list of lists
 pub cases-hold : CasesHold
@@ -61,3 +62,11 @@ outcomes-fixed = (
   λ s block. fixed (parkOutcome s block),
   λ block. fixed (resumeOutcome block),
 )
+
+pub resume-parked : ResumeParked
+unfolding ResumeParked
+resume-parked = RoundTrip.resume-parked
+
+pub park-resumed : ParkResumed
+unfolding ParkResumed
+park-resumed = RoundTrip.park-resumed

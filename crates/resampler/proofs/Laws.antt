@@ -17,3 +17,5 @@ pub mod Rows
 pub mod Steady
 pub mod Body
 pub mod Resuming
+pub mod Back
+pub mod RoundTrip

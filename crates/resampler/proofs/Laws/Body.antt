@@ -24,7 +24,7 @@ put-four a b c d old h =
     fill-end whole old (fill-two whole old two (omega (arith, two .len)))
 
 -- six parts, from the right
-six-right : (a b c d e f : List ℕ) → a ++ b ++ c ++ d ++ e ++ f ≡ a ++ (b ++ (c ++ (d ++ (e ++ f))))
+pub six-right : (a b c d e f : List ℕ) → a ++ b ++ c ++ d ++ e ++ f ≡ a ++ (b ++ (c ++ (d ++ (e ++ f))))
 six-right a b c d e f =
     append-assoc (a ++ b ++ c ++ d) e f ∙ append-assoc (a ++ b ++ c) d (e ++ f)
     ∙ append-assoc (a ++ b) c (d ++ (e ++ f)) ∙ append-assoc a b (c ++ (d ++ (e ++ f)))

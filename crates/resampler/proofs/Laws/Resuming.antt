@@ -4,7 +4,7 @@ use mathlib.Core.Bool.{Bool, true, false, not, _&&_}
 use mathlib.Core.List.{List}
 use Prim.Native.Nat.{ℕ}
 use native.Mathlib.Omega.{arith}
-use borrow.Author.Tests.{eq-eqb, ne-eqb}
+use borrow.Author.Tests.{eq-eqb, ne-eqb, eqb-true}
 use lib.Dec.{eqb}
 use lib.ListN.{length, take, drop, getD}
 use Rattle.fixed.specs.Choice.{if_then_else_}
@@ -12,7 +12,7 @@ use Rattle.stages.specs.Lists.{every}
 use Rattle.stages.specs.declared.answer.Answer.{Answer}
 use Rattle.stages.specs.declared.answer.Answer.the-variants.{Done, Refused}
 use Rattle.stages.specs.Outcome.{outcome}
-use Rattle.stages.proofs.Laws.Lists.{tabulate-length}
+use Rattle.stages.proofs.Laws.Lists.{tabulate-length, both-true}
 use Rattle.resampler.specs.declared.Record.{Record}
 use Rattle.resampler.specs.Pairs.{supported}
 use Rattle.resampler.specs.Record.{pairOf, dead, blank}
@@ -37,6 +37,17 @@ seal-passed : (whole known : Bool) (row later : ℕ) → row ≡ sealing whole k
 seal-passed false known row later e z = absurd (omega arith)
 seal-passed true false row later e z = absurd (omega arith)
 seal-passed true true row later e z = refl
+
+-- no row applies where every test is passed
+passed : (long whole known pair zero : Bool)
+    → _≡_ {A = ℕ} (if not long then 8 else if not whole then 9 else if not known then 10 else if not pair then 11 else if not zero then 12 else 0) 0
+    → (long ≡ true) × (whole ≡ true) × (known ≡ true) × (pair ≡ true) × (zero ≡ true)
+passed false w k p z e = absurd (omega arith)
+passed true false k p z e = absurd (omega arith)
+passed true true false p z e = absurd (omega arith)
+passed true true true false z e = absurd (omega arith)
+passed true true true true false e = absurd (omega arith)
+passed true true true true true e = (refl, refl, refl, refl, refl)
 
 module _ (b : List ℕ) where
   abbrev whole : Bool
@@ -72,6 +83,27 @@ module _ (b : List ℕ) where
 
     pub row-none : row ≡ 0 → supported (pairOf (recordIn b)) ≡ true → allZero ≡ true → resumeRow b ≡ 0
     row-none z y a = row-later z ∙ rw (y, a) refl
+
+  -- all that a block passes on which no row applies
+  pub record Accepted : Type 0 where
+    pub long : length b ≡ 512
+    pub sum : value (drop 508 b) ≡ check b
+    pub form : getD b 3 0 ≡ layout
+    pub pair : supported (pairOf (recordIn b)) ≡ true
+    pub rest : every zero? (dead (recordIn b)) ≡ true
+    pub pads : every (eqb 0) (take 216 (drop 292 b)) ≡ true
+
+  pub row-accepted : resumeRow b ≡ 0 → Accepted
+  unfolding resumeRow
+  row-accepted e =
+      let (l, w, k, p, z) = passed (eqb (length b) 512) whole known (supported (pairOf (recordIn b))) allZero e in
+      let (d, q) = both-true _ _ z in
+      record { long = eqb-true _ 512 l; sum = eqb-true _ _ w; form = eqb-true _ layout k; pair = p; rest = d; pads = q }
+
+  pub accepted-row : Accepted → resumeRow b ≡ 0
+  unfolding resumeRow
+  accepted-row a =
+      rw (eq-eqb (length b) 512 (a .long), eq-eqb (value (drop 508 b)) (check b) (a .sum), eq-eqb (getD b 3 0) layout (a .form), a .pair, a .rest, a .pads) refl
 
   pub resume-refused : {a : Answer} {r : Record} (row : ℕ) → (a ≡ Refused row) × (r ≡ blank) → resumeRow b ≡ row → (row ≡ 0 → ⊥)
       → outcome a r tt ≡ resumeOutcome b

@@ -43,7 +43,7 @@ module _ {A : Type 0} (t : A → Bool) where
     pub scan-end : length xs ≤ i → every t (drop i xs) ≡ true
     scan-end h = rw (drop-none xs i h) refl
 
-  every-both : (xs ys : List A) → every t (xs ++ ys) ≡ (every t xs && every t ys)
+  pub every-both : (xs ys : List A) → every t (xs ++ ys) ≡ (every t xs && every t ys)
   every-both [] ys = refl
   every-both (x ∷ xs) ys = ap (λ (b : Bool). t x && b) (every-both xs ys) ∙ and-right (t x) (every t xs) (every t ys)
     where
