@@ -1,5 +1,6 @@
 -- The claims of specs/Claims.antt. Assumes nothing.
 use mathlib.Core.Path.{refl}
+use lib.ListN.{length}
 use Rattle.stages.specs.Lists as Lists
 use Rattle.stages.specs.Run as Run
 use Rattle.fixed.specs.Fixed as Fixed
@@ -14,11 +15,14 @@ use Rattle.stages.specs.Stage.Down2_3 as Down23
 use Rattle.stages.specs.Stage.AnaFiltBank1 as AnaFiltBank1
 use Rattle.resampler.specs.Pairs as Pairs
 use Rattle.resampler.specs.Record as Record
+use Rattle.resampler.specs.Resample as Resample
 use Rattle.resampler.specs.Block as Block
-use Rattle.resampler.specs.Entry.{openOutcome}
+use Rattle.resampler.specs.Entry.{openOutcome, resampleOutcome}
 use Rattle.resampler.specs.Block.{parkOutcome, resumeOutcome}
 use Rattle.stages.proofs.Claims.{fixed}
-use Rattle.resampler.specs.Claims.{CasesHold, ThirtySupported, IncrementsReach, OutcomesFixed, ResumeParked, ParkResumed}
+use Rattle.resampler.proofs.Laws.Call.{call-count}
+use Rattle.resampler.proofs.Laws.Rows.{called}
+use Rattle.resampler.specs.Claims.{CasesHold, ThirtySupported, IncrementsReach, OutcomesFixed, ResumeParked, ParkResumed, OutputsCounted}
 use Rattle.resampler.proofs.Laws.RoundTrip as RoundTrip
 
 -- both sides compute to one list of lists
@@ -59,6 +63,7 @@ pub outcomes-fixed : OutcomesFixed
 unfolding OutcomesFixed
 outcomes-fixed = (
   λ inHz outHz forEnc. fixed (openOutcome inHz outHz forEnc),
+  λ s input out. fixed (resampleOutcome s input out),
   λ s block. fixed (parkOutcome s block),
   λ block. fixed (resumeOutcome block),
 )
@@ -70,3 +75,7 @@ resume-parked = RoundTrip.resume-parked
 pub park-resumed : ParkResumed
 unfolding ParkResumed
 park-resumed = RoundTrip.park-resumed
+
+pub outputs-counted : OutputsCounted
+unfolding OutputsCounted Resample.made
+outputs-counted s input room h r = call-count s input room (called s (length input) room (h .doubler .0, h .samples .0, h .ar2 .0, h .fir .0, h .delay .0) r)

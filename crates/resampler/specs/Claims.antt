@@ -13,7 +13,8 @@ use Rattle.stages.specs.Claims.{Fixed}
 use Rattle.resampler.specs.Pairs.{Pair, supported, thirty, path, up2x, increment}
 use Rattle.resampler.specs.declared.Record.{Record}
 use Rattle.resampler.specs.Record.{pairOf, dead}
-use Rattle.resampler.specs.Entry.{openOutcome}
+use Rattle.resampler.specs.Resample.{converted}
+use Rattle.resampler.specs.Entry.{openOutcome, resampleRow, resampleOutcome}
 use Rattle.resampler.specs.Block.{blockOf, parkOutcome, recordIn, zero?, resumeRow, resumeOutcome}
 use Rattle.resampler.specs.Cases.{cases}
 
@@ -32,10 +33,11 @@ reaches p = leb (1000 * p .inKhz * 2 ^ up2x (path p)) (increment p * (1000 * p .
 unfoldable pub IncrementsReach : Type 0
 IncrementsReach = every reaches thirty ≡ true
 
--- the promises of opening, parking and resuming fix all that these leave: two outcomes that they allow are one, refused or done
+-- the promises of the four entry points fix all that these leave: two outcomes that they allow are one, refused or done
 unfoldable pub OutcomesFixed : Type 0
-OutcomesFixed = ((inHz outHz forEnc : ℤ) → Fixed (openOutcome inHz outHz forEnc)) × ((s : Record) (block : List ℕ) → Fixed (parkOutcome s block))
-    × ((block : List ℕ) → Fixed (resumeOutcome block))
+OutcomesFixed =
+    ((inHz outHz forEnc : ℤ) → Fixed (openOutcome inHz outHz forEnc)) × ((s : Record) (input out : List ℤ) → Fixed (resampleOutcome s input out))
+    × ((s : Record) (block : List ℕ) → Fixed (parkOutcome s block)) × ((block : List ℕ) → Fixed (resumeOutcome block))
 
 -- ---- there and back
 
@@ -66,3 +68,10 @@ ResumeParked = (s : Record) → Held s → supported (pairOf s) ≡ true → eve
 -- a block that is accepted is the block of the record in it: no other form of a record is accepted
 unfoldable pub ParkResumed : Type 0
 ParkResumed = (b : List ℕ) → every byte? b ≡ true → resumeRow b ≡ 0 → blockOf (recordIn b) ≡ b
+
+-- ---- calls
+
+-- a call on which no row applies makes out-kHz samples for each millisecond, on every pair
+unfoldable pub OutputsCounted : Type 0
+OutputsCounted = (s : Record) (input : List ℤ) (room : ℕ) → Held s → resampleRow (pairOf s) (length input) room ≡ 0
+    → length (converted s input) ≡ length input / s .inKhz * s .outKhz

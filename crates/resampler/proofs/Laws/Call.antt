@@ -177,6 +177,10 @@ module _ (s : Record) (xs : List ℤ) (room : ℕ) (c : Calling s (length xs) ro
       let w : length (rest s xs) % k ≡ 0 = rw rest-length rest-whole in
       pass-count p (omega (arith, some)) (between s xs) (rest s xs) w (sized-unused (path p) (between s xs) between-sized) ∙ ap (made p) rest-length
 
+  pub call-count : length (converted s xs) ≡ made p n
+  unfolding converted
+  call-count = length-append (pass p (live s) (first s xs)) (pass p (between s xs) (rest s xs)) ∙ omega (arith, first-count, rest-count, both-made)
+
   -- the rest, as a part of the input
   module _ {m : ℕ} (h : m ≡ d) where
     abbrev part : List ℤ

@@ -8,9 +8,12 @@ use borrow.Author.Tests.{eqb-true, eqb-false, ltb-false}
 use lib.Dec.{eqb, ltb}
 use Rattle.fixed.specs.Choice.{if_then_else_}
 use Rattle.resampler.specs.Pairs.{Pair, supported}
-use Rattle.resampler.specs.Resample.{made}
+use Rattle.resampler.specs.declared.Record.{Record}
+use Rattle.resampler.specs.Record.{pairOf}
+use Rattle.resampler.specs.Resample.{made, Calling}
 use Rattle.resampler.specs.Entry.{resampleRow}
 use Rattle.resampler.proofs.Laws.Pairs.{small}
+use Rattle.resampler.proofs.Laws.Entries.{Whole}
 
 pub record Clear (p : Pair) (n room : ℕ) : Type 0 where
   pub pair : supported p ≡ true
@@ -50,3 +53,9 @@ made-small p n h l =
     let (d, i, j, o, q) = small p h in
     let m : n / p .inKhz ≤ 1000 = div-le-of-le-mul (p .inKhz) (omega (arith, l)) in
     omega (arith, mul-le-mul m q)
+
+-- a call on which no row applies is one that may be made
+pub called : (s : Record) (n room : ℕ) → Whole s → resampleRow (pairOf s) n room ≡ 0 → Calling s n room
+called s n room w h =
+    let k = row-clear (pairOf s) n room h in
+    record { pair = k .pair; whole = k .whole; some = k .some; fits = k .fits; doubler = w .0; samples = w .1; ar2 = w .2; fir = w .3; delay = w .4 }

@@ -13,7 +13,7 @@ use Rattle.resampler.specs.Resample.{made}
 use Rattle.resampler.specs.Entry.{resampleOutcome}
 use Rattle.resampler.proofs.Laws.Pairs.{small}
 use Rattle.resampler.proofs.Laws.Entries.{Whole}
-use Rattle.resampler.proofs.Laws.Rows.{Clear, row-clear, made-small}
+use Rattle.resampler.proofs.Laws.Rows.{Clear, row-clear, made-small, called}
 use Rattle.resampler.proofs.resample.silk_resampler.Statement.{statement}
 use Rattle.resampler.proofs.resample.silk_resampler.Tie as tie
 
@@ -62,9 +62,8 @@ mul-written c =
 
 call-requires : tie.Need-call-requires
 call-requires c κs =
-    let k = clear (c .before) in
-    let w = lengths (start (c .before .before)) in
-    record { pair = k .pair; whole = k .whole; some = k .some; fits = k .fits; doubler = w .0; samples = w .1; ar2 = w .2; fir = w .3; delay = w .4 }
+    let e = c .before in
+    called _ _ _ (lengths (start (e .before))) (sym (e .before .row-of .ensures) ∙ e .if1 .left)
 
 same-length : tie.Need-same-length
 same-length c = search needs
