@@ -195,6 +195,9 @@ pub trait Other {
 
     fn record(&self) -> Record;
 
+    /// Gets the whole output.
+    fn call_into(&mut self, input: &[i16], out: &mut [i16]);
+
     /// Writes `made` samples to the front of `out`.
     fn call(&mut self, input: &[i16], out: &mut [i16]);
 }
@@ -256,9 +259,13 @@ impl Other for Original {
         record.cleaned(&self.pair.live())
     }
 
+    fn call_into(&mut self, input: &[i16], out: &mut [i16]) {
+        silk_resampler(&mut self.state, out, input);
+    }
+
     fn call(&mut self, input: &[i16], out: &mut [i16]) {
         let made = self.pair.made(input.len());
-        silk_resampler(&mut self.state, &mut out[..made], input);
+        self.call_into(input, &mut out[..made]);
     }
 }
 
@@ -302,11 +309,22 @@ impl Other for Libopus {
         record.cleaned(&self.pair.live())
     }
 
-    fn call(&mut self, input: &[i16], out: &mut [i16]) {
-        let made = self.pair.made(input.len());
-        let out = out[..made].as_mut_ptr();
+    fn call_into(&mut self, input: &[i16], out: &mut [i16]) {
+        assert!(input.len() >= self.pair.in_khz && out.len() >= self.pair.made(input.len()));
         let samples = input.len() as i32;
         // It writes as many samples as `made` says.
-        unsafe { crate::libopus::silk_resampler(&mut self.state, out, input.as_ptr(), samples) };
+        unsafe {
+            crate::libopus::silk_resampler(
+                &mut self.state,
+                out.as_mut_ptr(),
+                input.as_ptr(),
+                samples,
+            )
+        };
+    }
+
+    fn call(&mut self, input: &[i16], out: &mut [i16]) {
+        let made = self.pair.made(input.len());
+        self.call_into(input, &mut out[..made]);
     }
 }
