@@ -1,5 +1,5 @@
--- Which entries are live, for either direction; and the loop that clears the others: at each turn what is kept and cleared
--- and the zeros to come are the whole. Assumes nothing.
+-- Which entries are live, for either direction; the loop that clears the others: at each turn what is kept and cleared
+-- and the zeros to come are the whole; and whether the others are zero, array by array. Assumes nothing.
 use mathlib.Core.Path.{_≡_, refl, sym, _∙_}
 use mathlib.Core.Bool.{Bool, true, false, _&&_}
 use mathlib.Core.List.{List, _++_, append-nil}
