@@ -1,0 +1,3 @@
+-- The laws that the proofs cite, each subject in its own file, lower ones first.
+pub mod Decimal
+pub mod Opening
