@@ -1,6 +1,5 @@
 -- The program, from the bytes that it reads to those that it writes to both streams. Assumes nothing.
 use Prim.Native.Nat.{ℕ, _*_, _/_, _%_}
-use mathlib.Core.Bool.{not}
 use mathlib.Core.List.{List, [], _++_}
 use lib.Dec.{eqb}
 use lib.IntN.{ℤ}
@@ -20,22 +19,15 @@ pub record Streams : Type 0 where
 abbrev pub streams : List ℕ → List ℕ → Streams
 streams out err = record { out = out; err = err }
 
--- the samples that bytes hold, two bytes each
-unfoldable pub samplesIn : List ℕ → List ℤ
-samplesIn b = wordsAt 2 0 (length b / 2) b
-
--- the bytes of a millisecond of input, and how many of n bytes are in whole ones
+-- the bytes of a millisecond of input
 abbrev pub unit : Record → ℕ
 unit s = 2 * s .inKhz
 
-unfoldable pub whole : Record → ℕ → ℕ
-whole s n = n / unit s * unit s
-
 -- the samples of the whole milliseconds
 unfoldable pub taken : Record → List ℕ → List ℤ
-taken s b = samplesIn (take (whole s (length b)) b)
+taken s b = wordsAt 2 0 (length b / unit s * s .inKhz) b
 
--- calls of 100 ms, the last one what is left: what they make, and the record after them
+-- calls of 100 ms, the last one what is left: what they make of these samples, and the record after them
 unfoldable pub made : Record → List ℕ → List ℤ
 made s b = passOut converted after (100 * s .inKhz) s (taken s b)
 
