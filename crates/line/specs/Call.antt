@@ -1,4 +1,4 @@
--- One call of the program: what it asks of its caller, and what it leaves. Assumes nothing.
+-- The parts of the program: beginning with a block, and one call; what they ask, and what they leave. Assumes nothing.
 use mathlib.Core.Path.{_≡_}
 use mathlib.Core.Bool.{true}
 use mathlib.Core.List.{List}
@@ -8,8 +8,14 @@ use Rattle.stages.specs.Outcome.{over}
 use Rattle.resampler.specs.declared.Record.{Record}
 use Rattle.resampler.specs.Pairs.{supported}
 use Rattle.resampler.specs.Record.{pairOf}
-use Rattle.resampler.specs.Block.{laid}
+use Rattle.resampler.specs.Block.{laid, recordIn, resumeRow}
 use Rattle.line.specs.Line.{unit, made, kept}
+
+-- the row that a block is refused by, or 0 and the record in it, of a supported pair
+pub record Begins (block : List ℕ) (row : ℕ) (s : Record) : Type 0 where
+  pub is : row ≡ resumeRow block
+  pub resumed : row ≡ 0 → s ≡ recordIn block
+  pub pair : row ≡ 0 → supported (pairOf s) ≡ true
 
 -- a supported pair, at most 100 ms of bytes, and room for what they make
 pub record Asks (s : Record) (bytes room : ℕ) : Type 0 where

@@ -1,10 +1,9 @@
 // Opening a line from the words that ask for it. Meaning: specs/Opening.antt.
-use stages::Answer;
+use crate::answers;
 ghost use mathlib.Core.Path.{_≡_};
 ghost use mathlib.Core.List.{[], _∷_};
 ghost use Prim.Native.Nat.{_<_, _≤_};
 ghost use lib.ListN.{length};
-ghost use Rattle.stages.specs.Outcome.{number as answered};
 ghost use Rattle.resampler.specs.Pairs.{pair};
 ghost use Rattle.line.specs.Opening as Opening;
 
@@ -33,23 +32,13 @@ fn fresh_block(d: usize, i: usize, o: usize, block: &mut [u8]) -> u8
     let outHz = (1000 * o) as i32;
     let opened = resampler::silk_resampler_init(inHz, outHz, d as i32);
     let answer = opened.answer;
-    let row = row_of(answer);
+    let row = answers::row_of(answer);
     if row != 0 {
         return row;
     }
     let record = opened.record;
     resampler::park(record, block);
     0
-}
-
-// The number of an answer.
-pub fn row_of(answer: Answer) -> u8
-    ensures { λ r. ⌜ r ≡ answered answer ⌝ }
-{
-    match answer {
-        Answer::Done { written } => 0,
-        Answer::Refused(row) => row,
-    }
 }
 
 // 1 for `encoder`, 0 for `decoder`, 2 for any other word.

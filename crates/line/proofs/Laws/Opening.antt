@@ -5,7 +5,7 @@ use mathlib.Core.Bool.{Bool, true, false, not, _&&_}
 use mathlib.Core.List.{List, [], _∷_}
 use Prim.Native.Nat.{ℕ, zero, suc, _+_, _*_, _-_, _/_, _%_, _<_, _≤_}
 use native.Mathlib.Omega.{arith}
-use borrow.Author.Tests.{eq-eqb, leb-true}
+use borrow.Author.Tests.{leb-true}
 use lib.Dec.{eqb, leb}
 use lib.IntN.{pos}
 use lib.ListN.{length, drop, getD}
@@ -18,7 +18,8 @@ use Rattle.resampler.specs.declared.Record.{Record}
 use Rattle.resampler.specs.Pairs.{Pair, pair, supported}
 use Rattle.resampler.specs.Record.{keeping, recordOf, fresh, blank}
 use Rattle.resampler.specs.Entry.{khz, directionOf, asked, openOutcome}
-use Rattle.resampler.specs.Block.{blockOf, parkRow, parkOutcome}
+use Rattle.resampler.specs.Block.{blockOf, parkOutcome}
+use Rattle.line.proofs.Laws.Ends.{parked}
 use Rattle.line.specs.Opening.{same, digit?, khzIn, Opens}
 
 -- ---- words
@@ -117,12 +118,10 @@ no-direction i o = refl
 
 -- ---- parking what was opened
 
-pub fresh-parked : (q : Pair) (before : List ℕ) {a : Answer} (s : Record) {t : Record} {after : List ℕ} → supported q ≡ true → s ≡ fresh q → length before ≡ 512
-    → outcome a t after ≡ parkOutcome s before → after ≡ blockOf (fresh q)
-unfolding parkOutcome parkRow fresh recordOf keeping
-fresh-parked q before s h e l r =
-    let m = eq-eqb (length before) 512 l in
-    ap (λ (t : Outcome Record (List ℕ)). t .lent) (rw (e, h, m) at r)
+pub fresh-parked : (q : Pair) (before : List ℕ) {a : Answer} (s : Record) {t : Record} {after : List ℕ} → supported q ≡ true → s ≡ fresh q
+    → length before ≡ 512 → outcome a t after ≡ parkOutcome s before → after ≡ blockOf (fresh q)
+unfolding fresh recordOf keeping
+fresh-parked q before s h e l r = parked (fresh q) before h l (rw e at r)
 
 pub opens : (q : Pair) (before : List ℕ) {after : List ℕ} → supported q ≡ true → after ≡ blockOf (fresh q) → Opens q before after 0
 opens q before h e = rw h (refl, e)

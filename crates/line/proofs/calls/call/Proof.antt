@@ -1,5 +1,5 @@
 -- `line::calls::call` meets its contract: the whole milliseconds are one call of the resampler, or none. Assumes nothing.
-use mathlib.Core.Path.{_≡_, refl, sym, ap, _∙_}
+use mathlib.Core.Path.{sym, ap, _∙_}
 use Prim.Native.Nat.{_*_, _/_}
 use native.Mathlib.Omega.{arith}
 use denote.Ref.{now}
@@ -14,10 +14,6 @@ use Rattle.line.proofs.Laws.Calls.{calling, leaves-none, leaves-some}
 use borrow.Author.Needs.{needs}
 use Rattle.line.proofs.calls.call.Statement.{statement}
 use Rattle.line.proofs.calls.call.Tie as tie
-use Rattle.line.proofs.calls.call.Reads as reads
-use Rattle.line.proofs.calls.call.Lts as lts
-use Rattle.line.proofs.calls.convert.Reads as convert-reads
-use Rattle.line.proofs.calls.samples_in.Reads as samples-in-reads
 
 lengths : (c : tie.Start) → Whole (c .args .s)
 lengths c =
@@ -77,8 +73,7 @@ convert-requires c κs =
     let s = e .before .before .before .before in
     let z = size s in
     let l = sym (slice-aggregate-convert (c .before)) in
-    let xs = take (length (now (s .args .input)) / unit (s .args .s) * s .args .s .inKhz) (c .before .before .samples-in .result) in
-    (
+    let xs = take (length (now (s .args .input)) / unit (s .args .s) * s .args .s .inKhz) (c .before .before .samples-in .result) in (
       calling (s .args .s) (now (s .args .input)) (now (s .args .out)) _ z (lengths s) (s .pre .pair) (e .if1 .left) xs l,
       omega (arith, l, z .few),
       sym (ap (Resample.made (pairOf (s .args .s))) l ∙ z .makes),

@@ -1,6 +1,6 @@
 -- `line::calls::convert` meets its contract: as many samples as the call makes are laid. Assumes nothing.
-use mathlib.Core.Path.{_≡_, refl, sym, subst, _∙_}
-use Prim.Native.Nat.{ℕ, _≤_}
+use mathlib.Core.Path.{sym, subst}
+use Prim.Native.Nat.{ℕ}
 use native.Mathlib.Omega.{arith}
 use denote.Ref.{now}
 use lib.ListN.{length}
@@ -10,11 +10,6 @@ use Rattle.line.proofs.Laws.Calls.{laid-front}
 use borrow.Author.Needs.{needs}
 use Rattle.line.proofs.calls.convert.Statement.{statement}
 use Rattle.line.proofs.calls.convert.Tie as tie
-use Rattle.line.proofs.calls.convert.Reads as reads
-use Rattle.line.proofs.calls.convert.Lts as lts
-use Rattle.line.proofs.calls.buffer.Reads as buffer-reads
-use Rattle.line.proofs.calls.resampled.Reads as resampled-reads
-use Rattle.resampler.proofs.block.put_samples.Reads as put-samples-reads
 
 buffer-requires : tie.Need-buffer-requires
 buffer-requires c κs = search needs
@@ -43,8 +38,7 @@ returns : tie.Need-returns
 returns c =
     let k = c .before .before in
     let r = k .before .before .before .before in
-    let s = r .before .before .before .before in
-    (
+    let s = r .before .before .before .before in (
       r .resampled .ensures .0,
       laid-front (s .args .s) (now (s .args .xs)) 4800 (s .pre .0) _ _ (now (s .args .out)) (s .args .m) (r .resampled .ensures .1) (s .pre .2) (k .put-samples .ensures),
     )

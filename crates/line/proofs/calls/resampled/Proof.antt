@@ -5,9 +5,6 @@ use Rattle.line.proofs.Laws.Calls.{call-done}
 use borrow.Author.Needs.{needs}
 use Rattle.line.proofs.calls.resampled.Statement.{statement}
 use Rattle.line.proofs.calls.resampled.Tie as tie
-use Rattle.line.proofs.calls.resampled.Reads as reads
-use Rattle.line.proofs.calls.resampled.Lts as lts
-use Rattle.resampler.proofs.silk_resampler.Reads as silk-resampler-reads
 
 silk-resampler-requires : tie.Need-silk-resampler-requires
 silk-resampler-requires c κs = search needs

@@ -2,16 +2,11 @@
 use mathlib.Core.Path.{sym, _∙_}
 use native.Mathlib.Omega.{arith}
 use denote.Ref.{now}
-use lib.ListN.{length}
 use lib.Seq.{length-take-le}
 use Rattle.line.proofs.Laws.Calls.{samples-front}
 use borrow.Author.Needs.{needs}
 use Rattle.line.proofs.calls.samples_in.Statement.{statement}
 use Rattle.line.proofs.calls.samples_in.Tie as tie
-use Rattle.line.proofs.calls.samples_in.Reads as reads
-use Rattle.line.proofs.calls.samples_in.Lts as lts
-use Rattle.line.proofs.calls.buffer.Reads as buffer-reads
-use Rattle.resampler.proofs.block.samples_at.Reads as samples-at-reads
 
 buffer-requires : tie.Need-buffer-requires
 buffer-requires c κs = search needs
