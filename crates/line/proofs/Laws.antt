@@ -4,3 +4,4 @@ pub mod Ends
 pub mod Opening
 pub mod Sizes
 pub mod Calls
+pub mod Pieces

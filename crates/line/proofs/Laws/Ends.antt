@@ -20,6 +20,7 @@ use Rattle.resampler.specs.Pairs.{supported}
 use Rattle.resampler.specs.Record.{pairOf, dead, keeping, recordOf, blank}
 use Rattle.resampler.specs.Resample.{after}
 use Rattle.resampler.specs.Block.{laid, value, check, layout, zero?, recordIn, resumeRow, resumeOutcome, blockOf, parkRow, parkOutcome}
+use Rattle.resampler.proofs.Laws.Resuming.{row-length}
 use Rattle.line.specs.Line.{taken, made, kept}
 use Rattle.line.specs.Call.{Begins, Leaves}
 
@@ -30,7 +31,7 @@ unfolding parkOutcome parkRow
 parked s before h l r = ap (λ (t : Outcome Record (List ℕ)). t .lent) (rw (h, eq-eqb (length before) 512 l) at r)
 
 -- where no row applies, the pair is supported
-row-supported : (b : List ℕ) → resumeRow b ≡ 0 → supported (pairOf (recordIn b)) ≡ true
+pub row-supported : (b : List ℕ) → resumeRow b ≡ 0 → supported (pairOf (recordIn b)) ≡ true
 unfolding resumeRow
 row-supported b h =
     go (eqb (length b) 512) (eqb (value (drop 508 b)) (check b)) (eqb (getD b 3 0) layout) (supported (pairOf (recordIn b)))
@@ -44,6 +45,14 @@ row-supported b h =
     go true true false z later e q = absurd (omega (arith, q))
     go true true true false later e q = absurd (omega (arith, q))
     go true true true true later e q = e
+
+-- and the block has its length
+pub row-whole : (b : List ℕ) → resumeRow b ≡ 0 → length b ≡ 512
+row-whole b h = go (eqb (length b) 512) refl
+  where
+    go : (z : Bool) → eqb (length b) 512 ≡ z → length b ≡ 512
+    go true e = eqb-true _ 512 e
+    go false e = absurd (omega (arith, h, row-length b (eqb-false _ 512 e)))
 
 -- a resuming is its row and the record in the block
 pub begins : (b : List ℕ) {a : Answer} {r : Record} {row : ℕ} → outcome a r (tt {0}) ≡ resumeOutcome b → row ≡ number a → Begins b row r
