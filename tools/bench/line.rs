@@ -1,121 +1,20 @@
 //! A line in up to three implementations: ours (the static library of crates/probes), the Rust original's, and libopus's.
 //! The state of each is shown as our record, its dead entries zero.
 
-use unopus::silk::resampler::{silk_resampler, silk_resampler_init, ResamplerMode, ResamplerState};
+#[path = "../oracle/lines.rs"]
+mod original;
 
-#[derive(Clone, Copy, Debug, PartialEq)]
-pub struct Pair {
-    pub direction: u8,
-    pub in_khz: usize,
-    pub out_khz: usize,
-}
-
-/// The encoder's from five rates to three, the decoder's from three to five.
-pub fn thirty() -> Vec<Pair> {
-    let three = [8, 12, 16];
-    let five = [8, 12, 16, 24, 48];
-    let both = |direction, from: &[usize], to: &[usize]| {
-        let mut all = Vec::new();
-        for in_khz in from {
-            for out_khz in to {
-                all.push(Pair {
-                    direction,
-                    in_khz: *in_khz,
-                    out_khz: *out_khz,
-                });
-            }
-        }
-        all
-    };
-    [both(1, &five, &three), both(0, &three, &five)].concat()
-}
-
-/// How many entries of each array a pair uses.
-pub struct Live {
-    pub doubler: usize,
-    pub samples: usize,
-    pub ar2: usize,
-    pub fir: usize,
-    pub delay: usize,
-}
+use original::Original;
+pub use original::{thirty, Pair, Record};
 
 impl Pair {
     pub fn named(&self) -> String {
         let direction = ["decoder", "encoder"][self.direction as usize];
         format!("{direction} {} to {}", self.in_khz, self.out_khz)
     }
-
-    pub fn made(&self, samples: usize) -> usize {
-        samples / self.in_khz * self.out_khz
-    }
-
-    pub fn live(&self) -> Live {
-        let (i, o) = (self.in_khz, self.out_khz);
-        let order = match (4 * o == 3 * i || 3 * o == 2 * i, 2 * o == i) {
-            (true, _) => 18,
-            (_, true) => 24,
-            _ => 36,
-        };
-        let down = o < i;
-        Live {
-            doubler: if o > i { 6 } else { 0 },
-            samples: if o > i && o != 2 * i { 8 } else { 0 },
-            ar2: if down { 2 } else { 0 },
-            fir: if down { order } else { 0 },
-            delay: self.opened().params.input_delay,
-        }
-    }
-
-    fn opened(&self) -> ResamplerState {
-        let [from, to] = [self.in_khz, self.out_khz].map(|khz| 1000 * khz as i32);
-        silk_resampler_init(from, to, self.direction as i32)
-    }
-}
-
-#[repr(C)]
-#[derive(Clone, Copy, Debug, PartialEq)]
-pub struct Record {
-    pub direction: u8,
-    pub in_khz: u8,
-    pub out_khz: u8,
-    pub doubler: [i32; 6],
-    pub samples: [i16; 8],
-    pub ar2: [i32; 2],
-    pub fir: [i32; 36],
-    pub delay: [i16; 48],
 }
 
 impl Record {
-    pub const BLANK: Record = Record {
-        direction: 0,
-        in_khz: 0,
-        out_khz: 0,
-        doubler: [0; 6],
-        samples: [0; 8],
-        ar2: [0; 2],
-        fir: [0; 36],
-        delay: [0; 48],
-    };
-
-    pub fn fresh(pair: Pair) -> Record {
-        Record {
-            direction: pair.direction,
-            in_khz: pair.in_khz as u8,
-            out_khz: pair.out_khz as u8,
-            ..Record::BLANK
-        }
-    }
-
-    /// With the dead entries zero.
-    pub fn cleaned(mut self, live: &Live) -> Record {
-        self.doubler[live.doubler..].fill(0);
-        self.samples[live.samples..].fill(0);
-        self.ar2[live.ar2..].fill(0);
-        self.fir[live.fir..].fill(0);
-        self.delay[live.delay..].fill(0);
-        self
-    }
-
     /// The bytes of the parked block, one entry behind the other.
     pub fn block(&self) -> [u8; 512] {
         let mut bytes = vec![self.direction, self.in_khz, self.out_khz, 1];
@@ -205,10 +104,7 @@ pub trait Other {
 /// The original, and libopus where it is linked.
 pub fn others(pair: Pair) -> Vec<Box<dyn Other>> {
     vec![
-        Box::new(Original {
-            pair,
-            state: pair.opened(),
-        }),
+        Box::new(Original::open(pair)),
         #[cfg(libopus)]
         Box::new(Libopus::new(pair)),
     ]
@@ -217,50 +113,17 @@ pub fn others(pair: Pair) -> Vec<Box<dyn Other>> {
 /// The original first.
 pub const OTHERS: [&str; 2] = ["the Rust", "libopus"];
 
-struct Original {
-    pair: Pair,
-    state: ResamplerState,
-}
-
 impl Other for Original {
     fn set(&mut self, record: &Record) {
-        let live = self.pair.live();
-        self.state = self.pair.opened();
-        match &mut self.state.mode {
-            ResamplerMode::Copy => {}
-            ResamplerMode::Up2Hq(state) => state.iir_state = record.doubler,
-            ResamplerMode::IirFir(state) => {
-                state.up2_HQ.iir_state = record.doubler;
-                state.fir_state = record.samples;
-            }
-            ResamplerMode::DownFir(_, state) => {
-                state.ar2_state = record.ar2;
-                state.fir_state[..live.fir].copy_from_slice(&record.fir[..live.fir]);
-            }
-        }
-        self.state.delay_buf[..live.delay].copy_from_slice(&record.delay[..live.delay]);
+        self.put(record);
     }
 
     fn record(&self) -> Record {
-        let mut record = Record::fresh(self.pair);
-        match &self.state.mode {
-            ResamplerMode::Copy => {}
-            ResamplerMode::Up2Hq(state) => record.doubler = state.iir_state,
-            ResamplerMode::IirFir(state) => {
-                record.doubler = state.up2_HQ.iir_state;
-                record.samples = state.fir_state;
-            }
-            ResamplerMode::DownFir(_, state) => {
-                record.ar2 = state.ar2_state;
-                record.fir = state.fir_state;
-            }
-        }
-        record.delay = self.state.delay_buf;
-        record.cleaned(&self.pair.live())
+        self.shown()
     }
 
     fn call_into(&mut self, input: &[i16], out: &mut [i16]) {
-        silk_resampler(&mut self.state, out, input);
+        self.resample(input, out);
     }
 
     fn call(&mut self, input: &[i16], out: &mut [i16]) {
