@@ -1,12 +1,14 @@
 //! Writes the stored answers of the original. README.md describes the file.
 //! Run: answers FILE.
 
+mod lines;
 mod probes;
 mod stages;
 mod values;
 mod word;
 
-use stages::{Stage, DOWN_TABLES};
+use lines::{thirty, Original, Pair, Record};
+use stages::{Stage, DOWN_TABLES, UNTOUCHED};
 use unopus::silk::resampler::rom::{silk_Resampler_2_3_COEFS_LQ, silk_resampler_frac_FIR_12};
 use values::{Dice, EDGES};
 
@@ -15,9 +17,14 @@ const DIFFERENCE: usize = 1;
 const FOURFOLD: usize = 2;
 const PRODUCT: usize = 3;
 const NARROWING: usize = 4;
+// The stages have 5 to 11.
+const LINE: usize = 12;
+
+/// What a dead entry of a line's record holds before a call: nothing may come of it.
+const DEAD: i32 = 0x5a5a_5a5a;
 
 /// What each kind's cases are called in the count of them.
-const NAMES: [&str; 12] = [
+const NAMES: [&str; 13] = [
     "sums",
     "differences",
     "four-folds",
@@ -30,6 +37,7 @@ const NAMES: [&str; 12] = [
     "of the doubler",
     "of the interpolator",
     "of the down filters",
+    "calls of a line",
 ];
 
 #[derive(Default)]
@@ -50,8 +58,7 @@ impl Answers {
     ) {
         let lengths = [kind, given.len(), samples.len(), outputs.len(), after.len()];
         let lengths = lengths.map(|n| n as i32);
-        let samples: Vec<i32> = samples.iter().map(|x| *x as i32).collect();
-        let numbers = [&lengths, given, &samples, outputs, after].concat();
+        let numbers = [&lengths, given, &widened(samples), outputs, after].concat();
         assert!(numbers.len() <= 1024, "a case is too long: {lengths:?}");
         for number in numbers {
             self.bytes.extend(number.to_le_bytes());
@@ -80,6 +87,9 @@ fn main() {
     narrowings(&mut answers, &mut dice);
     for stage in all_stages(&mut dice) {
         runs(&mut answers, &stage, &mut dice);
+    }
+    for pair in thirty() {
+        calls(&mut answers, pair, &mut dice);
     }
     std::fs::write(file, &answers.bytes).expect("the file can be written");
 
@@ -207,6 +217,60 @@ fn run(
     let outputs = stage.call(&mut after, &samples);
     let given = [&stage.told[..], &words].concat();
     answers.case(stage.kind, &given, &samples, &outputs, &after);
+}
+
+/// Three calls in a row from a fresh line on, the last with two batches behind its first millisecond; then calls on records
+/// that no call leaves.
+fn calls(answers: &mut Answers, pair: Pair, dice: &mut Dice) {
+    let mut line = Original::open(pair);
+    let in_a_row: [(usize, Signal); 3] = [(1, impulse), (2, full_scale), (12, any_samples)];
+    for (ms, signal) in in_a_row {
+        call(answers, &mut line, &signal(ms * pair.in_khz, dice));
+    }
+    for word in [any_word, extreme_word] {
+        line.put(&made_up(pair, word, dice));
+        call(answers, &mut line, &any_samples(2 * pair.in_khz, dice));
+    }
+}
+
+fn call(answers: &mut Answers, line: &mut Original, samples: &[i16]) {
+    let pair = line.pair;
+    let before = line.shown().with_dead(&pair.live(), DEAD);
+    let told = [before.direction, before.in_khz, before.out_khz].map(i32::from);
+    let mut out = vec![UNTOUCHED; pair.made(samples.len()) + 2];
+    line.resample(samples, &mut out);
+    let given = [&told[..], &entries(&before)].concat();
+    let after = entries(&line.shown());
+    answers.case(LINE, &given, samples, &widened(&out), &after);
+}
+
+fn made_up(pair: Pair, word: Word, dice: &mut Dice) -> Record {
+    Record {
+        doubler: [0; 6].map(|_| word(dice)),
+        samples: [0; 8].map(|_| (word(dice) >> 16) as i16),
+        ar2: [0; 2].map(|_| word(dice)),
+        fir: [0; 36].map(|_| word(dice)),
+        delay: [0; 48].map(|_| (word(dice) >> 16) as i16),
+        ..Record::fresh(pair)
+    }
+}
+
+/// The entries of a record, one array behind the other.
+fn entries(record: &Record) -> Vec<i32> {
+    let samples = widened(&record.samples);
+    let delay = widened(&record.delay);
+    let arrays = [
+        &record.doubler[..],
+        &samples,
+        &record.ar2,
+        &record.fir,
+        &delay,
+    ];
+    arrays.concat()
+}
+
+fn widened(samples: &[i16]) -> Vec<i32> {
+    samples.iter().map(|x| i32::from(*x)).collect()
 }
 
 /// All pairs of edges, pairs of any words, and words with 256 times a sample.

@@ -13,7 +13,7 @@ use unopus::silk::resampler::up2_hq::{silk_resampler_private_up2_HQ, ResamplerUp
 use unopus::silk::resampler::{silk_resampler_init, ResamplerMode, ResamplerParams};
 
 /// What a place of an output holds before a call.
-const UNTOUCHED: i16 = 12345;
+pub const UNTOUCHED: i16 = 12345;
 
 /// The kinds of their cases.
 pub const AR2: usize = 5;

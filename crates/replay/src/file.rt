@@ -51,18 +51,33 @@ pub fn count(fd: i32) -> usize
     if n <= 1024 { n } else { 0 }
 }
 
+// The next numbers, as many as there are places.
+pub fn take_words(fd: i32, to: &mut [i32]) {
+    let mut i: usize = 0;
+    while i < to.len() {
+        let x = number(fd);
+        to[i] = x;
+        i += 1;
+    }
+}
+
+// The same as samples.
+pub fn take_samples(fd: i32, to: &mut [i16]) {
+    let mut i: usize = 0;
+    while i < to.len() {
+        let x = fixed::clip(number(fd));
+        to[i] = x;
+        i += 1;
+    }
+}
+
 // The next n numbers, and zeros behind them.
 pub fn numbers(fd: i32, n: usize) -> [i32; 48]
     requires { ⌜ n ≤ 48 ⌝ }
     ensures { λ r. ⌜ length r ≡ 48 ⌝ }
 {
     let mut to = [0i32; 48];
-    let mut i: usize = 0;
-    while i < n {
-        let x = number(fd);
-        to[i] = x;
-        i += 1;
-    }
+    take_words(fd, &mut to[..n]);
     to
 }
 
@@ -72,12 +87,7 @@ pub fn samples(fd: i32, n: usize) -> [i16; 1024]
     ensures { λ r. ⌜ length r ≡ 1024 ⌝ }
 {
     let mut to = [0i16; 1024];
-    let mut i: usize = 0;
-    while i < n {
-        let x = fixed::clip(number(fd));
-        to[i] = x;
-        i += 1;
-    }
+    take_samples(fd, &mut to[..n]);
     to
 }
 

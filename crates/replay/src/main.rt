@@ -3,6 +3,7 @@
 use libc::STDOUT_FILENO;
 
 mod file;
+mod lines;
 mod operations;
 mod readers;
 mod runs;
@@ -17,9 +18,10 @@ fn case(fd: i32, kind: i32) -> bool {
     let given = file::count(fd);
     let n = file::count(fd);
     let m = file::count(fd);
-    file::count(fd);
+    let after = file::count(fd);
     match kind {
         0 | 1 | 2 | 3 | 4 => operations::word_case(fd, kind),
+        12 => (given == 103) & (after == 100) & lines::line_case(fd, n, m),
         _ => runs::run_case(fd, kind, given, n, m),
     }
 }

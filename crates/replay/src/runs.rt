@@ -8,7 +8,7 @@ ghost use Prim.Native.Nat.{_≤_};
 ghost use lib.ListN.{length};
 
 // What a place of an output holds before a call.
-const UNTOUCHED: i16 = 12345;
+pub const UNTOUCHED: i16 = 12345;
 
 // Whether all places but so many are reported written, and the next numbers are the output and these words.
 pub fn same_written(fd: i32, written: usize, spare: usize, out: &[i16], words: &[i32]) -> bool {
