@@ -1,6 +1,7 @@
-// Runs every row of refusals of the entry points of `stages`, and accepted calls beside them, and prints what each call
-// left: the answer's number and count, the words, and how many places behind the count are as they were.
+// Runs every row of refusals of the decimators, the split and the resampler, and accepted calls beside them, and prints what each
+// call left: the answer's number and count, the words, and how many places behind the count are as they were.
 use libc::STDOUT_FILENO;
+use resampler::Record;
 use stages::Answer;
 ghost use Prim.Native.Nat.{_≤_};
 
@@ -13,10 +14,11 @@ const FILL: i16 = -32768;
 // The words before a call. No call that takes samples ends in them.
 const WORDS: [i32; 6] = [7, 8, 9, 10, 11, 12];
 
-// The calls: 0 for the 1/2 decimator, 1 for the split, 2 for the 2/3 decimator; the samples, the places, and in the split
-// those of the high band. The rows of each come in the order in which they are tested, also where a later row applies as
+// The calls: 0 for the 1/2 decimator, 1 for the split, 2 for the 2/3 decimator, 3 for the resampler on a line of the encoder from
+// 8 to 16 kHz, 4 for the resampler on a record from 24 to 48, which is no pair; the samples, the places, and in the split those of
+// the high band. The rows of each come in the order in which they are tested, also where a later row applies as
 // well, and behind them what is accepted.
-const CALLS: [[usize; 4]; 47] = [
+const CALLS: [[usize; 4]; 63] = [
     [0, 1, 0, 0],
     [0, 3, 1, 0],
     [0, 3, 5, 0],
@@ -64,6 +66,22 @@ const CALLS: [[usize; 4]; 47] = [
     [2, 3, 4, 0],
     [2, 48000, 32000, 0],
     [2, 48000, 32002, 0],
+    [3, 0, 16, 0],
+    [3, 0, 0, 0],
+    [3, 7, 16, 0],
+    [3, 9, 15, 0],
+    [3, 8001, 16002, 0],
+    [3, 8008, 16016, 0],
+    [3, 8008, 16015, 0],
+    [3, 8, 15, 0],
+    [3, 8, 0, 0],
+    [3, 8000, 15999, 0],
+    [3, 8, 16, 0],
+    [3, 8, 17, 0],
+    [3, 8000, 16000, 0],
+    [4, 8, 16, 0],
+    [4, 0, 0, 0],
+    [4, 8008, 0, 0],
 ];
 
 // An answer in two numbers.
@@ -196,11 +214,33 @@ fn split(low: &mut [i16], high: &mut [i16], input: &[i16]) {
     both_left(answer, &after, low, high);
 }
 
+// The resampler's words are those of the doubler.
+fn resample(name: &[u8], inKhz: u8, outKhz: u8, out: &mut [i16], input: &[i16]) {
+    asked(name, input.len(), out.len());
+    let s = Record {
+        direction: 1,
+        inKhz,
+        outKhz,
+        doubler: WORDS,
+        samples: [0i16; 8],
+        ar2: [0i32; 2],
+        fir: [0i32; 36],
+        delay: [0i16; 48],
+    };
+    let r = resampler::silk_resampler(s, out, input);
+    let after = r.record;
+    let words = after.doubler;
+    let answer = r.answer;
+    left(answer, &words, out);
+}
+
 fn run(entry: usize, out: &mut [i16], high: &mut [i16], input: &[i16]) {
     match entry {
         0 => down2(out, input),
         1 => split(out, high, input),
-        _ => down2_3(out, input),
+        2 => down2_3(out, input),
+        3 => resample(b"8 to 16, ", 8, 16, out, input),
+        _ => resample(b"24 to 48, ", 24, 48, out, input),
     }
 }
 
@@ -227,7 +267,7 @@ fn call(entry: usize, samples: usize, places: usize, high_places: usize) {
 
 fn main() {
     let mut i: usize = 0;
-    while i < 47 {
+    while i < 63 {
         let c = CALLS[i];
         call(c[0], c[1], c[2], c[3]);
         i += 1;

@@ -4,7 +4,7 @@ use mathlib.Core.Path.{_≡_, refl, sym, ap, _∙_}
 use mathlib.Core.Bool.{true}
 use mathlib.Core.List.{List, [], _∷_, _++_, append-nil, flatMap}
 use Prim.Native.Nat.{ℕ, zero, suc, _+_, _*_, _-_, _/_, _%_, _<_, _≤_}
-use native.Mathlib.Nat.{mul-div-cancel, mul-mod-left, add-mul, mod-self}
+use native.Mathlib.Nat.{add-mul}
 use native.Mathlib.Omega.{arith}
 use borrow.Author.Tests.{eq-eqb, ne-eqb, le-ltb}
 use lib.IntN.{ℤ}
@@ -16,17 +16,14 @@ use Rattle.stages.specs.Run.{run, end, passOut, passEnd}
 use Rattle.stages.specs.Outcome.{Outcome, outcome, over}
 use Rattle.stages.proofs.Laws.Lists.{tabulate-length, cut-nil, cut-next}
 use Rattle.resampler.specs.declared.Record.{Record}
-use Rattle.resampler.specs.Pairs.{Pair, supported, path}
-use Rattle.resampler.specs.Record.{pairOf, live}
-use Rattle.resampler.specs.Resample.{made, pass, first, rest, between, converted, after, Calling}
+use Rattle.resampler.specs.Pairs.{Pair, supported}
+use Rattle.resampler.specs.Record.{pairOf}
+use Rattle.resampler.specs.Resample.{made, converted, after, Calling}
 use Rattle.resampler.specs.Resample as Resample
 use Rattle.resampler.specs.Entry.{resampleRow, resampleOutcome}
 use Rattle.resampler.specs.Block.{laid, wordsAt}
-use Rattle.resampler.proofs.Laws.Pairs.{small}
 use Rattle.resampler.proofs.Laws.Entries.{Whole}
-use Rattle.resampler.proofs.Laws.Words.{sized-unused, live-sized, pass-sized}
-use Rattle.resampler.proofs.Laws.Count.{pass-count}
-use Rattle.resampler.proofs.Laws.Call.{later, first-length, rest-length}
+use Rattle.resampler.proofs.Laws.Call.{call-count}
 use Rattle.resampler.proofs.Laws.Bytes.{laid-length}
 use Rattle.line.specs.Line as Line
 use Rattle.line.specs.Line.{unit, taken}
@@ -42,37 +39,6 @@ module _ (s : Record) (xs : List ℤ) (room : ℕ) (c : Calling s (length xs) ro
 
   abbrev n : ℕ
   n = length xs
-
-  some : 0 < k
-  some = omega (arith, small p (c .pair) .1)
-
-  -- what the first millisecond and the rest make
-  both : made p k + made p (n - k) ≡ made p n
-  unfolding made
-  both =
-      let (j, e) = later n k (c .whole) (c .some) in
-      let f : n - k ≡ j * k = omega (arith, e) in
-      let g : n ≡ (1 + j) * k = omega (arith, e, add-mul 1 j k) in
-      let h : k ≡ 1 * k = omega arith in
-      let a : k / k ≡ 1 = ap (λ (m : ℕ). m / k) h ∙ mul-div-cancel 1 some in
-      let b : (n - k) / k ≡ j = ap (λ (m : ℕ). m / k) f ∙ mul-div-cancel j some in
-      let d : n / k ≡ 1 + j = ap (λ (m : ℕ). m / k) g ∙ mul-div-cancel (1 + j) some in
-      rw (a, b, d) (sym (add-mul 1 j (s .outKhz)))
-
-  pub converted-length : length (converted s xs) ≡ made p n
-  unfolding converted between
-  converted-length =
-      let z = live-sized s (c .pair) (c .doubler, c .samples, c .ar2, c .fir, c .delay) in
-      let y = pass-sized p (live s) (first s xs) z in
-      let lf = first-length s xs room c in
-      let lr = rest-length s xs room c in
-      let (j, e) = later n k (c .whole) (c .some) in
-      let f : n - k ≡ j * k = omega (arith, e) in
-      let wf : length (first s xs) % k ≡ 0 = rw lf (mod-self k) in
-      let wr : length (rest s xs) % k ≡ 0 = rw (lr, f) (mul-mod-left j k) in
-      let a = pass-count p some (live s) (first s xs) wf (sized-unused (path p) (live s) z) ∙ ap (made p) lf in
-      let b = pass-count p some (between s xs) (rest s xs) wr (sized-unused (path p) (between s xs) y) ∙ ap (made p) lr in
-      length-append (pass p (live s) (first s xs)) _ ∙ (λ i. a i + b i) ∙ both
 
   -- no row applies to at most 100 ms
   clear : n ≤ 100 * k → resampleRow p n room ≡ 0
@@ -94,7 +60,7 @@ module _ (s : Record) (xs : List ℤ) (room : ℕ) (c : Calling s (length xs) ro
   pub laid-front : (o before : List ℤ) (old : List ℕ) {z : List ℕ} (m : ℕ) → o ≡ over (converted s xs) before → m ≡ made p n
       → z ≡ take 0 old ++ laid 2 (take m o) ++ drop (0 + 2 * length (take m o)) old → z ≡ over (laid 2 (converted s xs)) old
   laid-front o before old m e h q =
-      let t : take m o ≡ converted s xs = ap (take m) e ∙ take-at (converted s xs) _ m (converted-length ∙ sym h) in
+      let t : take m o ≡ converted s xs = ap (take m) e ∙ take-at (converted s xs) _ m (call-count s xs room c ∙ sym h) in
       let d : 0 + 2 * length (converted s xs) ≡ length (laid 2 (converted s xs)) = omega (arith, laid-length 2 (converted s xs)) in
       q ∙ rw (t, d) refl
 
@@ -178,7 +144,7 @@ module _ (s : Record) (b before : List ℕ) where
         let ys = taken s b in
         let c = calling ys taken-length in
         let (made, kept) = one-call (100 * s .inKhz) s ys (c .some) (omega (arith, taken-length, z .few)) in
-        let l : length (converted s ys) ≡ ms * s .outKhz = converted-length s ys 4800 c ∙ ap (Resample.made (pairOf s)) taken-length ∙ z .makes in
+        let l : length (converted s ys) ≡ ms * s .outKhz = call-count s ys 4800 c ∙ ap (Resample.made (pairOf s)) taken-length ∙ z .makes in
         record {
           moved = a ∙ ap (after s) q ∙ sym kept;
           filled = f ∙ ap (λ (v : List ℤ). over (laid 2 v) before) (ap (converted s) q ∙ sym made);

@@ -6,10 +6,10 @@ use Rattle.refusals.proofs.main.Statement.{statement}
 use Rattle.refusals.proofs.main.Tie as tie
 
 abbrev Inv-loop : tie.InvT-loop
-Inv-loop i₀ i = i ≤ 47
+Inv-loop i₀ i = i ≤ 63
 
 abbrev μ-loop : tie.MeasureT-loop
-μ-loop i₀ i = 47 - i
+μ-loop i₀ i = 63 - i
 
 loop-holds : tie.Need-loop-holds Inv-loop μ-loop
 loop-holds c = search needs
