@@ -13,7 +13,8 @@ use Rattle.stages.proofs.Laws.Lists.{both-true}
 use Rattle.resampler.specs.declared.Record.{Record}
 use Rattle.resampler.specs.Pairs.{Pair, supported}
 use Rattle.resampler.specs.Record.{pairOf}
-use Rattle.resampler.specs.Block.{laid, recordIn, resumeRow}
+use Rattle.bytes.specs.Bytes.{laid}
+use Rattle.resampler.specs.Block.{recordIn, resumeRow}
 use Rattle.resampler.proofs.Laws.Resuming.{row-length}
 use Rattle.line.specs.Line.{streams, unit, made, kept, goesOn, program}
 use Rattle.line.specs.Claims.{fed, CallByCall, ShortRefused, EmptyLine}

@@ -8,7 +8,8 @@ use Rattle.stages.specs.Outcome.{over}
 use Rattle.resampler.specs.declared.Record.{Record}
 use Rattle.resampler.specs.Pairs.{supported}
 use Rattle.resampler.specs.Record.{pairOf}
-use Rattle.resampler.specs.Block.{laid, recordIn, resumeRow}
+use Rattle.bytes.specs.Bytes.{laid}
+use Rattle.resampler.specs.Block.{recordIn, resumeRow}
 use Rattle.line.specs.Line.{unit, made, kept}
 
 -- the row that a block is refused by, or 0 and the record in it, of a supported pair

@@ -7,7 +7,8 @@ use lib.Dec.{eqb}
 use lib.ListN.{length}
 use Rattle.stages.specs.Lists.{joined, every}
 use Rattle.resampler.specs.declared.Record.{Record}
-use Rattle.resampler.specs.Block.{laid, blockOf, recordIn, resumeRow}
+use Rattle.bytes.specs.Bytes.{laid}
+use Rattle.resampler.specs.Block.{blockOf, recordIn, resumeRow}
 use Rattle.line.specs.Message.{refused}
 use Rattle.line.specs.Line.{Streams, streams, unit, made, kept, goesOn, program}
 

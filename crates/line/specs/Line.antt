@@ -8,7 +8,8 @@ use Rattle.fixed.specs.Choice.{if_then_else_}
 use Rattle.stages.specs.Run.{passOut, passEnd}
 use Rattle.resampler.specs.declared.Record.{Record}
 use Rattle.resampler.specs.Resample.{converted, after}
-use Rattle.resampler.specs.Block.{laid, wordsAt, blockOf, recordIn, resumeRow}
+use Rattle.bytes.specs.Bytes.{laid, wordsAt}
+use Rattle.resampler.specs.Block.{blockOf, recordIn, resumeRow}
 use Rattle.line.specs.Message.{refused, leftOver}
 
 -- standard output and standard error

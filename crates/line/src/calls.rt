@@ -1,6 +1,5 @@
 // One call of the program `convert`: up to 100 ms of bytes in, the bytes of what they make out. Meaning: specs/Call.antt.
 use resampler::Record;
-use resampler::block;
 ghost use mathlib.Core.Path.{_≡_};
 ghost use Prim.Native.Nat.{_*_, _≤_};
 ghost use lib.ListN.{length, take};
@@ -8,7 +7,7 @@ ghost use Rattle.stages.specs.Outcome.{over};
 ghost use Rattle.resampler.specs.Pairs.{supported};
 ghost use Rattle.resampler.specs.Record.{pairOf};
 ghost use Rattle.resampler.specs.Resample.{made, converted, after, Calling};
-ghost use Rattle.resampler.specs.Block.{laid, wordsAt};
+ghost use Rattle.bytes.specs.Bytes.{laid, wordsAt};
 ghost use Rattle.line.specs.Call.{Asks, Leaves};
 
 // The record after a call, the bytes that it put out, and how many it left over.
@@ -57,7 +56,7 @@ fn samples_in(input: &[u8], n: usize) -> [i16; 4800]
     ensures { λ r. ⌜ (length r ≡ 4800) × (take n r ≡ wordsAt 2 0 n (now (input .entry))) ⌝ }
 {
     let mut xs = buffer();
-    block::samples_at(input, 0, &mut xs[..n]);
+    bytes::samples_at(input, 0, &mut xs[..n]);
     xs
 }
 
@@ -68,7 +67,7 @@ fn convert(s: Record, xs: &[i16], out: &mut [u8], m: usize) -> Record
 {
     let mut ys = buffer();
     let record = resampled(s, xs, &mut ys);
-    block::put_samples(out, 0, &ys[..m]);
+    bytes::put_samples(out, 0, &ys[..m]);
     record
 }
 

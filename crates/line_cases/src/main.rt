@@ -3,7 +3,7 @@ use libc::STDOUT_FILENO;
 use line::ends;
 use line::message;
 use line::opening;
-use resampler::block;
+use bytes;
 ghost use mathlib.Core.Path.{_≡_};
 ghost use Prim.Native.Nat.{_<_};
 ghost use lib.ListN.{length};
@@ -76,7 +76,7 @@ fn seal(b: &mut [u8], anew: usize)
         return;
     }
     let sum = block::check(b);
-    block::put(b, 508, 4, sum);
+    bytes::put(b, 508, 4, sum);
 }
 
 fn set(b: &mut [u8], at: usize, value: u8)

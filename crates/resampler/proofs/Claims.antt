@@ -16,6 +16,7 @@ use Rattle.stages.specs.Stage.AnaFiltBank1 as AnaFiltBank1
 use Rattle.resampler.specs.Pairs as Pairs
 use Rattle.resampler.specs.Record as Record
 use Rattle.resampler.specs.Resample as Resample
+use Rattle.bytes.specs.Bytes as Bytes
 use Rattle.resampler.specs.Block as Block
 use Rattle.resampler.specs.Entry.{openOutcome, resampleOutcome}
 use Rattle.resampler.specs.Block.{parkOutcome, resumeOutcome}
@@ -46,7 +47,7 @@ unfolding
     Pairs.rate-id Pairs.delay-matrix-enc Pairs.delay-matrix-dec Pairs.delay
     Pairs.filter Pairs.path Pairs.up2x Pairs.raised Pairs.increment
     Record.living Record.live Record.liveDelay Record.keeping Record.recordOf Record.cleaned Record.fresh
-    Block.bytes Block.value Block.bitsOf Block.laid Block.weighed Block.check Block.body Block.blockOf
+    Bytes.bytes Bytes.value Bytes.bitsOf Bytes.laid Block.weighed Block.check Block.body Block.blockOf
     mathlib.Core.List.flatMap
 cases-hold = refl
 

@@ -1,11 +1,8 @@
 -- The laws that the proofs cite, each subject in its own file, lower ones first.
 pub mod Pairs
 pub mod Rates
-pub mod Bytes
 pub mod Check
 pub mod Scan
-pub mod Place
-pub mod Laying
 pub mod Entries
 pub mod Live
 pub mod Passes

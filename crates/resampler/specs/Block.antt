@@ -6,38 +6,15 @@ use lib.Dec.{ltb, eqb}
 use lib.IntN.{ℤ, pos, negsuc}
 use lib.ListN.{length, take, drop, getD, replicate}
 use Rattle.fixed.specs.Choice.{if_then_else_}
-use Rattle.stages.specs.Lists.{tabulate, every}
+use Rattle.bytes.specs.Bytes.{bytes, value, laid, wordsAt}
+use Rattle.stages.specs.Lists.{every}
 use Rattle.stages.specs.declared.answer.Answer.the-variants.{Done}
 use Rattle.stages.specs.Outcome.{Outcome, outcome, ruled}
 use Rattle.resampler.specs.declared.Record.{Record}
 use Rattle.resampler.specs.Pairs.{supported}
 use Rattle.resampler.specs.Record.{pairOf, dead, cleaned, blank}
 
--- ---- words and bytes
-
--- k bytes of a number, the low one first, and the number of such bytes
-unfoldable pub bytes : ℕ → ℕ → List ℕ
-bytes zero n = []
-bytes (suc k) n = n % 256 ∷ bytes k (n / 256)
-
-unfoldable pub value : List ℕ → ℕ
-value [] = 0
-value (b ∷ bs) = b + 256 * value bs
-
--- the bits of a signed word of k bytes as a number, and the word of such a number
-unfoldable pub bitsOf : ℕ → ℤ → ℕ
-bitsOf k (pos n) = n
-bitsOf k (negsuc n) = 256 ^ k - 1 - n
-
-unfoldable pub wordOf : ℕ → ℕ → ℤ
-wordOf k n = if ltb n (256 ^ k / 2) then pos n else negsuc (256 ^ k - 1 - n)
-
--- words of k bytes, one behind the other; and the n words that stand from byte i of b on
-unfoldable pub laid : ℕ → List ℤ → List ℕ
-laid k ws = flatMap (λ w. bytes k (bitsOf k w)) ws
-
-unfoldable pub wordsAt : ℕ → ℕ → ℕ → List ℕ → List ℤ
-wordsAt k i n b = tabulate 0 n (λ j. wordOf k (value (take k (drop (i + j * k) b))))
+-- ---- the check
 
 -- each byte times its place counted from 1, added up; i is the first byte's place less 1
 unfoldable pub weighed : ℕ → List ℕ → ℕ

@@ -12,7 +12,8 @@ use Rattle.stages.specs.Stage.Down2_3.{down23}
 use Rattle.stages.specs.Stage.AnaFiltBank1.{splitLow, splitHigh}
 use Rattle.resampler.specs.Pairs.{pair, increment, delay}
 use Rattle.resampler.specs.Record.{fresh}
-use Rattle.resampler.specs.Block.{value, blockOf}
+use Rattle.bytes.specs.Bytes.{value}
+use Rattle.resampler.specs.Block.{blockOf}
 
 infix 20 _is_
 pub record Case : Type 0 where

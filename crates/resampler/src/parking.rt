@@ -9,6 +9,7 @@ ghost use mathlib.Core.List.{[], _∷_, _++_};
 ghost use Prim.Native.Nat.{_≤_};
 ghost use lib.ListN.{length, take, drop};
 ghost use Rattle.stages.specs.Outcome.{outcome};
+ghost use Rattle.bytes.specs.Bytes as Bytes;
 ghost use Rattle.resampler.specs.Block as Block;
 
 // What parking answers, and the record that was given.
@@ -46,10 +47,10 @@ fn seal(to: &mut [u8])
     requires { ⌜ length (now to) ≡ 512 ⌝ }
     ensures { λ r.
         let b = now (to .entry) in
-        ⌜ now (to .exit) ≡ take 508 b ++ Block.bytes 4 (Block.check b) ⌝ }
+        ⌜ now (to .exit) ≡ take 508 b ++ Bytes.bytes 4 (Block.check b) ⌝ }
 {
     let sum = block::check(to);
-    block::put(to, 508, 4, sum);
+    bytes::put(to, 508, 4, sum);
 }
 
 // Puts the record as it is to the front, with its padding: all but the check.
@@ -60,16 +61,16 @@ fn put_body(to: &mut [u8], s: Record)
 {
     put_pair(to, s.direction, s.inKhz, s.outKhz);
     let doubler = s.doubler;
-    block::put_words(to, 4, &doubler);
+    bytes::put_words(to, 4, &doubler);
     let samples = s.samples;
-    block::put_samples(to, 28, &samples);
+    bytes::put_samples(to, 28, &samples);
     let ar2 = s.ar2;
-    block::put_words(to, 44, &ar2);
+    bytes::put_words(to, 44, &ar2);
     let fir = s.fir;
-    block::put_words(to, 52, &fir);
+    bytes::put_words(to, 52, &fir);
     let delay = s.delay;
-    block::put_samples(to, 196, &delay);
-    block::put(to, 292, 216, 0);
+    bytes::put_samples(to, 196, &delay);
+    bytes::put(to, 292, 216, 0);
 }
 
 // Puts the pair and the layout to the front.

@@ -14,6 +14,7 @@ ghost use Rattle.stages.specs.declared.answer.Answer.the-variants.{Refused};
 ghost use Rattle.stages.specs.Lists.{every};
 ghost use Rattle.stages.specs.Outcome.{outcome};
 ghost use Rattle.resampler.specs.Record as Records;
+ghost use Rattle.bytes.specs.Bytes as Bytes;
 ghost use Rattle.resampler.specs.Block as Block;
 
 // What a resuming answers, and the record: the blank one where it is refused.
@@ -65,9 +66,9 @@ fn seal_row(block: &[u8]) -> u8
     requires { ⌜ length (now block) ≡ 512 ⌝ }
     ensures { λ r.
         let b = now (block .entry) in
-        ⌜ r ≡ (if not (eqb (Block.value (drop 508 b)) (Block.check b)) then 9 else if not (eqb (getD b 3 0) Block.layout) then 10 else 0) ⌝ }
+        ⌜ r ≡ (if not (eqb (Bytes.value (drop 508 b)) (Block.check b)) then 9 else if not (eqb (getD b 3 0) Block.layout) then 10 else 0) ⌝ }
 {
-    let whole = block::number(block, 508, 4) == block::check(block);
+    let whole = bytes::number(block, 508, 4) == block::check(block);
     let known = block[3] == 1;
     if whole & known {
         return 0;
@@ -81,15 +82,15 @@ fn record_in(block: &[u8]) -> Record
     ensures { λ r. ⌜ r ≡ Block.recordIn (now (block .entry)) ⌝ }
 {
     let mut doubler = [0i32; 6];
-    block::words_at(block, 4, &mut doubler);
+    bytes::words_at(block, 4, &mut doubler);
     let mut samples = [0i16; 8];
-    block::samples_at(block, 28, &mut samples);
+    bytes::samples_at(block, 28, &mut samples);
     let mut ar2 = [0i32; 2];
-    block::words_at(block, 44, &mut ar2);
+    bytes::words_at(block, 44, &mut ar2);
     let mut fir = [0i32; 36];
-    block::words_at(block, 52, &mut fir);
+    bytes::words_at(block, 52, &mut fir);
     let mut delay = [0i16; 48];
-    block::samples_at(block, 196, &mut delay);
+    bytes::samples_at(block, 196, &mut delay);
     Record {
         direction: block[0],
         inKhz: block[1],

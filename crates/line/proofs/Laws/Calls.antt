@@ -21,10 +21,10 @@ use Rattle.resampler.specs.Record.{pairOf}
 use Rattle.resampler.specs.Resample.{made, converted, after, Calling}
 use Rattle.resampler.specs.Resample as Resample
 use Rattle.resampler.specs.Entry.{resampleRow, resampleOutcome}
-use Rattle.resampler.specs.Block.{laid, wordsAt}
+use Rattle.bytes.specs.Bytes.{laid, wordsAt}
 use Rattle.resampler.proofs.Laws.Entries.{Whole}
 use Rattle.resampler.proofs.Laws.Call.{call-count}
-use Rattle.resampler.proofs.Laws.Bytes.{laid-length}
+use Rattle.bytes.proofs.Laws.Bytes.{laid-length}
 use Rattle.line.specs.Line as Line
 use Rattle.line.specs.Line.{unit, taken}
 use Rattle.line.specs.Call.{Leaves}

@@ -19,7 +19,8 @@ use Rattle.resampler.specs.declared.Record.{Record}
 use Rattle.resampler.specs.Pairs.{supported}
 use Rattle.resampler.specs.Record.{pairOf, dead, keeping, recordOf, blank}
 use Rattle.resampler.specs.Resample.{after}
-use Rattle.resampler.specs.Block.{laid, value, check, layout, zero?, recordIn, resumeRow, resumeOutcome, blockOf, parkRow, parkOutcome}
+use Rattle.bytes.specs.Bytes.{laid, value}
+use Rattle.resampler.specs.Block.{check, layout, zero?, recordIn, resumeRow, resumeOutcome, blockOf, parkRow, parkOutcome}
 use Rattle.resampler.proofs.Laws.Resuming.{row-length}
 use Rattle.line.specs.Line.{taken, made, kept}
 use Rattle.line.specs.Call.{Begins, Leaves}

@@ -18,7 +18,8 @@ use Rattle.resampler.specs.declared.Record.{Record}
 use Rattle.resampler.specs.Pairs.{Pair, supported}
 use Rattle.resampler.specs.Record.{pairOf}
 use Rattle.resampler.specs.Resample.{converted, after}
-use Rattle.resampler.specs.Block.{value, wordOf, wordsAt, laid, blockOf, bytes, bitsOf}
+use Rattle.bytes.specs.Bytes.{value, wordOf, wordsAt, laid, bytes, bitsOf}
+use Rattle.resampler.specs.Block.{blockOf}
 use Rattle.resampler.proofs.Laws.Pairs.{small}
 use Rattle.line.specs.Message.{leftOver}
 use Rattle.line.specs.Line.{streams, unit, taken, made, kept, goesOn}

@@ -13,9 +13,9 @@ use lib.Seq.{length-take-le, take-at, drop-at, drop-drop, take-add}
 use Rattle.fixed.specs.Choice.{if_then_else_}
 use Rattle.stages.specs.Lists.{tabulate, every}
 use Rattle.stages.proofs.Laws.Lists.{both-true}
-use Rattle.resampler.specs.Block.{bytes, value, bitsOf, wordOf, laid, wordsAt}
+use Rattle.bytes.specs.Bytes.{bytes, value, bitsOf, wordOf, laid, wordsAt}
 use Rattle.resampler.specs.Claims.{byte?, word?}
-use Rattle.resampler.proofs.Laws.Bytes.{bytes-length}
+use Rattle.bytes.proofs.Laws.Bytes.{bytes-length}
 use Rattle.resampler.proofs.Laws.Scan.{every-both}
 
 -- ---- every

@@ -10,10 +10,11 @@ use Rattle.stages.proofs.Laws.Lists.{drop-none}
 use Rattle.stages.proofs.Laws.Loop.{Filling, fill-start, fill-two, fill-end, fill-count}
 use Rattle.resampler.specs.declared.Record.{Record}
 use Rattle.resampler.specs.Record.{cleaned}
-use Rattle.resampler.specs.Block.{bytes, laid, layout, body, weighed, check, blockOf}
-use Rattle.resampler.proofs.Laws.Bytes.{laid-length}
+use Rattle.bytes.specs.Bytes.{bytes, laid}
+use Rattle.resampler.specs.Block.{layout, body, weighed, check, blockOf}
+use Rattle.bytes.proofs.Laws.Bytes.{laid-length}
 use Rattle.resampler.proofs.Laws.Entries.{Whole}
-use Rattle.resampler.proofs.Laws.Place.{placed, place-part}
+use Rattle.bytes.proofs.Laws.Place.{placed, place-part}
 
 -- four stores in front
 pub put-four : (a b c d : ℕ) (old : List ℕ) → 4 ≤ length old

@@ -20,7 +20,7 @@ use Rattle.resampler.specs.Pairs.{Pair, pair, supported, rate-id, delay,
 use Rattle.resampler.specs.Record.{pairOf, living, live, liveDelay, dead, keeping, recordOf, cleaned}
 use Rattle.resampler.specs.Block.{zero?}
 use Rattle.resampler.proofs.Laws.Pairs.{of-each}
-use Rattle.resampler.proofs.Laws.Place.{place-start, place-end}
+use Rattle.bytes.proofs.Laws.Place.{place-start, place-end}
 use Rattle.resampler.proofs.Laws.Scan.{every-five}
 
 -- ---- live entries

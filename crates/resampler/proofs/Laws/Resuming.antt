@@ -16,7 +16,8 @@ use Rattle.stages.proofs.Laws.Lists.{tabulate-length, both-true}
 use Rattle.resampler.specs.declared.Record.{Record}
 use Rattle.resampler.specs.Pairs.{supported}
 use Rattle.resampler.specs.Record.{pairOf, dead, blank}
-use Rattle.resampler.specs.Block.{value, check, layout, zero?, wordsAt, recordIn, resumeRow, resumeOutcome}
+use Rattle.bytes.specs.Bytes.{value, wordsAt}
+use Rattle.resampler.specs.Block.{check, layout, zero?, recordIn, resumeRow, resumeOutcome}
 use Rattle.resampler.proofs.Laws.Entries.{Whole}
 
 pub in-whole : (b : List ℕ) → Whole (recordIn b)

@@ -17,10 +17,11 @@ use Rattle.stages.proofs.Laws.Lists.{both-true}
 use Rattle.resampler.specs.declared.Record.{Record}
 use Rattle.resampler.specs.Pairs.{path, delay, supported}
 use Rattle.resampler.specs.Record.{pairOf, living, live, liveDelay, dead, keeping, recordOf, cleaned}
-use Rattle.resampler.specs.Block.{bytes, value, laid, wordsAt, weighed, check, layout, body, blockOf, recordIn, zero?, resumeRow, resumeOutcome}
+use Rattle.bytes.specs.Bytes.{bytes, value, laid, wordsAt}
+use Rattle.resampler.specs.Block.{weighed, check, layout, body, blockOf, recordIn, zero?, resumeRow, resumeOutcome}
 use Rattle.resampler.specs.Claims.{byte?, Array, Held}
 use Rattle.resampler.proofs.Laws.Pairs.{small}
-use Rattle.resampler.proofs.Laws.Bytes.{bytes-length, laid-length}
+use Rattle.bytes.proofs.Laws.Bytes.{bytes-length, laid-length}
 use Rattle.resampler.proofs.Laws.Scan.{every-five}
 use Rattle.resampler.proofs.Laws.Entries.{Whole}
 use Rattle.resampler.proofs.Laws.Body.{six-right}

@@ -8,7 +8,7 @@ use denote.Ref.{now}
 use lib.ListN.{length, take, drop}
 use Rattle.stages.proofs.Laws.Lists.{drop-next, drop-none}
 use Rattle.stages.proofs.Laws.Loop.{Filling, fill-one}
-use Rattle.resampler.proofs.Laws.Place.{place-start}
+use Rattle.bytes.proofs.Laws.Place.{place-start}
 use Rattle.line.proofs.message.put.Statement.{statement}
 use Rattle.line.proofs.message.put.Tie as tie
 

@@ -12,7 +12,8 @@ use lib.Dec.{eqb}
 use lib.ListN.{drop, length-drop}
 use lib.Seq.{take-all}
 use Rattle.stages.proofs.Laws.Lists.{both-true}
-use Rattle.resampler.specs.Block.{value, check}
+use Rattle.bytes.specs.Bytes.{value}
+use Rattle.resampler.specs.Block.{check}
 use Rattle.resampler.proofs.resuming.seal_row.Statement.{statement}
 use Rattle.resampler.proofs.resuming.seal_row.Tie as tie
 

@@ -1,4 +1,4 @@
--- `resampler::block::put` meets its contract: at each turn what is put and the bytes of what is left are the whole.
+-- `bytes::put` meets its contract: at each turn what is put and the bytes of what is left are the whole.
 -- Assumes nothing.
 use Prim.Native.Nat.{_+_, _-_, _≤_}
 use mathlib.Core.Path.{_≡_, refl}
@@ -7,11 +7,11 @@ use native.Mathlib.Omega.{arith}
 use borrow.Author.Needs.{needs}
 use lib.ListN.{length, take}
 use Rattle.stages.proofs.Laws.Loop.{Filling, fill-one}
-use Rattle.resampler.specs.Block.{bytes}
-use Rattle.resampler.proofs.Laws.Bytes.{bytes-length, bytes-next, bytes-none}
-use Rattle.resampler.proofs.Laws.Place.{place-start, place-end}
-use Rattle.resampler.proofs.block.put.Statement.{statement}
-use Rattle.resampler.proofs.block.put.Tie as tie
+use Rattle.bytes.specs.Bytes.{bytes}
+use Rattle.bytes.proofs.Laws.Bytes.{bytes-length, bytes-next, bytes-none}
+use Rattle.bytes.proofs.Laws.Place.{place-start, place-end}
+use Rattle.bytes.proofs.put.Statement.{statement}
+use Rattle.bytes.proofs.put.Tie as tie
 
 abbrev Inv-loop : tie.InvT-loop
 Inv-loop block₀ at k bits end left₀ i₀ block left i =

@@ -1,11 +1,11 @@
--- `resampler::block::number` meets its contract: from the high byte down, each turn puts one more below the number.
+-- `bytes::number` meets its contract: from the high byte down, each turn puts one more below the number.
 -- Assumes nothing.
 use Prim.Native.Nat.{_+_, _-_}
 use native.Mathlib.Omega.{arith}
 use borrow.Author.Needs.{needs}
-use Rattle.resampler.proofs.Laws.Bytes.{Read, read-start, read-room, read-turn, read-end}
-use Rattle.resampler.proofs.block.number.Statement.{statement}
-use Rattle.resampler.proofs.block.number.Tie as tie
+use Rattle.bytes.proofs.Laws.Bytes.{Read, read-start, read-room, read-turn, read-end}
+use Rattle.bytes.proofs.number.Statement.{statement}
+use Rattle.bytes.proofs.number.Tie as tie
 
 abbrev Inv-loop : tie.InvT-loop
 Inv-loop block at k n₀ i₀ n i = Read block at k i n

@@ -1,11 +1,11 @@
--- `resampler::block::sample_bits` meets its contract: below zero the complement is what the bits lack of all ones.
+-- `bytes::sample_bits` meets its contract: below zero the complement is what the bits lack of all ones.
 -- Assumes nothing.
 use mathlib.Core.Path.{refl}
 use native.Mathlib.Omega.{arith}
 use mir.Syntax.{w16}
-use Rattle.resampler.proofs.Laws.Bytes.{bits-fit, bits-low, bits-high}
-use Rattle.resampler.proofs.block.sample_bits.Statement.{statement}
-use Rattle.resampler.proofs.block.sample_bits.Tie as tie
+use Rattle.bytes.proofs.Laws.Bytes.{bits-fit, bits-low, bits-high}
+use Rattle.bytes.proofs.sample_bits.Statement.{statement}
+use Rattle.bytes.proofs.sample_bits.Tie as tie
 
 cast-result : tie.Need-cast-result
 cast-result c =

@@ -1,4 +1,4 @@
--- `resampler::block::put_samples` meets its contract: at each turn what is put and what is left are the whole.
+-- `bytes::put_samples` meets its contract: at each turn what is put and what is left are the whole.
 -- Assumes nothing.
 use Prim.Native.Nat.{_-_}
 use mathlib.Core.Path.{ap, _∙_}
@@ -9,10 +9,10 @@ use lib.ListN.{length}
 use mir.Syntax.{w16}
 use Rattle.fixed.proofs.Laws.Fit.{back}
 use Rattle.stages.specs.Lists.{_!_}
-use Rattle.resampler.specs.Block.{bitsOf}
-use Rattle.resampler.proofs.Laws.Laying.{Laying, lay-start, lay-room, lay-turn, lay-end}
-use Rattle.resampler.proofs.block.put_samples.Statement.{statement}
-use Rattle.resampler.proofs.block.put_samples.Tie as tie
+use Rattle.bytes.specs.Bytes.{bitsOf}
+use Rattle.bytes.proofs.Laws.Laying.{Laying, lay-start, lay-room, lay-turn, lay-end}
+use Rattle.bytes.proofs.put_samples.Statement.{statement}
+use Rattle.bytes.proofs.put_samples.Tie as tie
 
 abbrev Inv-loop : tie.InvT-loop
 Inv-loop block₀ at samples i₀ j₀ block i j = Laying 2 at samples block₀ i j block

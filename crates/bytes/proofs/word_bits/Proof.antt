@@ -1,11 +1,11 @@
--- `resampler::block::word_bits` meets its contract: below zero the complement is what the bits lack of all ones.
+-- `bytes::word_bits` meets its contract: below zero the complement is what the bits lack of all ones.
 -- Assumes nothing.
 use mathlib.Core.Path.{refl}
 use native.Mathlib.Omega.{arith}
 use mir.Syntax.{w32}
-use Rattle.resampler.proofs.Laws.Bytes.{bits-fit, bits-low, bits-high}
-use Rattle.resampler.proofs.block.word_bits.Statement.{statement}
-use Rattle.resampler.proofs.block.word_bits.Tie as tie
+use Rattle.bytes.proofs.Laws.Bytes.{bits-fit, bits-low, bits-high}
+use Rattle.bytes.proofs.word_bits.Statement.{statement}
+use Rattle.bytes.proofs.word_bits.Tie as tie
 
 cast-result : tie.Need-cast-result
 cast-result c =

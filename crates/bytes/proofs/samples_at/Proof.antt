@@ -1,4 +1,4 @@
--- `resampler::block::samples_at` meets its contract: at each turn what is taken and what is left are the whole.
+-- `bytes::samples_at` meets its contract: at each turn what is taken and what is left are the whole.
 -- Assumes nothing.
 use Prim.Native.Nat.{_-_}
 use mathlib.Core.Path.{ap, _∙_}
@@ -7,10 +7,10 @@ use borrow.Author.Needs.{needs}
 use lib.ListN.{length}
 use mir.Syntax.{w16}
 use Rattle.fixed.proofs.Laws.Fit.{back}
-use Rattle.resampler.specs.Block.{wordOf}
-use Rattle.resampler.proofs.Laws.Laying.{Taking, take-start, take-room, take-turn, take-end}
-use Rattle.resampler.proofs.block.samples_at.Statement.{statement}
-use Rattle.resampler.proofs.block.samples_at.Tie as tie
+use Rattle.bytes.specs.Bytes.{wordOf}
+use Rattle.bytes.proofs.Laws.Laying.{Taking, take-start, take-room, take-turn, take-end}
+use Rattle.bytes.proofs.samples_at.Statement.{statement}
+use Rattle.bytes.proofs.samples_at.Tie as tie
 
 abbrev Inv-loop : tie.InvT-loop
 Inv-loop block at out₀ i₀ j₀ out i j = Taking 2 at block out₀ i j out

@@ -11,9 +11,9 @@ use lib.ListN.{length, take, drop, set, getD}
 use Rattle.stages.specs.Lists.{tabulate}
 use Rattle.stages.proofs.Laws.Lists.{tabulate-length, tabulate-next, tabulate-none, drop-none}
 use Rattle.stages.proofs.Laws.Loop.{Filling, fill-start, fill-one, fill-end}
-use Rattle.resampler.specs.Block.{bytes, value, bitsOf, wordOf, laid, wordsAt}
-use Rattle.resampler.proofs.Laws.Bytes.{bytes-length, laid-length, laid-next, laid-none}
-use Rattle.resampler.proofs.Laws.Place.{placed, place-start, place-end, place-part}
+use Rattle.bytes.specs.Bytes.{bytes, value, bitsOf, wordOf, laid, wordsAt}
+use Rattle.bytes.proofs.Laws.Bytes.{bytes-length, laid-length, laid-next, laid-none}
+use Rattle.bytes.proofs.Laws.Place.{placed, place-start, place-end, place-part}
 
 -- the word j of n has room behind those before it
 word-room : (k j n : ℕ) → j < n → k * j + k ≤ k * n
