@@ -5,6 +5,8 @@ ghost use Prim.Native.Nat.{_<_};
 ghost use lib.IntN.{pos, natAbs, _+ℤ_, _-ℤ_, _*ℤ_};
 ghost use Rattle.fixed.specs.Fixed.{wrapped, times, clipped, narrowed};
 
+pub mod ar2;
+
 // The low 32 bits of z, read as signed.
 fn wrap(z: i64) -> i32
     ensures { λ r. ⌜ r ≡ wrapped z ⌝ }

@@ -3,7 +3,7 @@ use libc::STDOUT_FILENO;
 use line::ends;
 use line::message;
 use line::opening;
-use bytes;
+use resampler::block;
 ghost use mathlib.Core.Path.{_≡_};
 ghost use Prim.Native.Nat.{_<_};
 ghost use lib.ListN.{length};

@@ -4,6 +4,7 @@ use lib.ListN.{length}
 use Rattle.stages.specs.Lists as Lists
 use Rattle.stages.specs.Run as Run
 use Rattle.fixed.specs.Fixed as Fixed
+use Rattle.fixed.specs.Ar2 as Step
 use Rattle.stages.specs.Rom as Rom
 use Rattle.stages.specs.Section as Section
 use Rattle.stages.specs.Reader as Reader
@@ -37,7 +38,7 @@ unfolding
     Section.sectionX Section.sectionOut Section.sectionNext
     Section.rowOut Section.rowNext Section.evenOut Section.oddOut Section.halvesNext
     Reader.mirrored Reader.sum
-    Ar2.ar2 Ar2.ar2End Ar2.ar2Out Ar2.ar2After Ar2.ar2Next
+    Ar2.ar2 Ar2.ar2End Step.ar2Out Step.ar2After Step.ar2Next
     Up2Hq.up2 Up2Hq.up2End Up2Hq.up2Even Up2Hq.up2Odd Up2Hq.up2Out Up2Hq.up2Next
     IirFir.interpolation IirFir.interpolated
     Down2.down2 Down2.down2End Down2.down2Sum Down2.down2Out Down2.down2Next

@@ -1,6 +1,6 @@
 // The resampler: pairs of rates, records and parked blocks, over the stages.
 // From silk/resampler/mod.rs.
-mod block;
+pub mod block;
 mod entries;
 mod init;
 pub mod pairs;

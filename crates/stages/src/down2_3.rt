@@ -3,9 +3,9 @@
 // out by value, lengths that do not fit are refused, and each three samples are filtered and read at once, with no buffer.
 use crate::answer;
 use crate::answer::Answer;
-use crate::ar2;
 use crate::rom;
 use crate::taps;
+use fixed::ar2;
 ghost use mathlib.Core.Path.{_≡_};
 ghost use mathlib.Core.List.{[], _∷_};
 ghost use Prim.Native.Nat.{_*_, _/_, _%_, _<_, _≤_};

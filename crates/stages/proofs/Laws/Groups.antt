@@ -13,7 +13,8 @@ use Rattle.stages.specs.Outcome.{over}
 use Rattle.fixed.specs.Fixed.{narrowed}
 use Rattle.stages.specs.Reader.{sum}
 use Rattle.stages.specs.Rom.{silk-Resampler-2-3-COEFS-LQ}
-use Rattle.stages.specs.Stage.Ar2.{ar2, ar2End, ar2Next, ar2After}
+use Rattle.fixed.specs.Ar2.{ar2Next, ar2After}
+use Rattle.stages.specs.Stage.Ar2.{ar2, ar2End}
 use Rattle.stages.specs.Stage.Down2_3.{groupOut, tapped, firstTaps, secondTaps, down23, down23End}
 use Rattle.stages.proofs.Laws.Lists.{drop-next, drop-none}
 use Rattle.stages.proofs.Laws.Lengths.{ar2End-length}

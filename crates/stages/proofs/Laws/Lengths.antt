@@ -13,7 +13,8 @@ use Rattle.stages.specs.Rom.{silk-resampler-up2-hq-0, silk-resampler-up2
 use Rattle.stages.specs.declared.rates.Rates.{Rates}
 use Rattle.stages.specs.Reader.{read, outputs}
 use Rattle.stages.specs.Section.{scaled, sectionOut, rowNext, halvesNext}
-use Rattle.stages.specs.Stage.Ar2.{ar2, ar2End, ar2Out, ar2After, ar2Next}
+use Rattle.fixed.specs.Ar2.{ar2Out, ar2After, ar2Next}
+use Rattle.stages.specs.Stage.Ar2.{ar2, ar2End}
 use Rattle.stages.specs.Stage.Up2Hq.{up2, up2End, up2Raw, up2Out, up2Next}
 use Rattle.stages.specs.Stage.DownFir.{Filter, outerSums, downFir, downBatch}
 use Rattle.stages.specs.Stage.IirFir.{iirFir, iirFirCarried, iirFirBatch, iirFirNext}

@@ -8,7 +8,8 @@ use mir.Syntax.{w16, w32}
 use Rattle.stages.specs.Lists.{_!_}
 use Rattle.stages.specs.Run.{run, end}
 use Rattle.stages.specs.Rom.{silk-Resampler-2-3-COEFS-LQ}
-use Rattle.stages.specs.Stage.Ar2.{ar2, ar2End, ar2Out, ar2Next, ar2After}
+use Rattle.fixed.specs.Ar2.{ar2Out, ar2Next, ar2After}
+use Rattle.stages.specs.Stage.Ar2.{ar2, ar2End}
 use Rattle.fixed.proofs.Laws.Fit.{back}
 use Rattle.stages.proofs.down2_3.filtered_three.Statement.{statement}
 use Rattle.stages.proofs.down2_3.filtered_three.Tie as tie

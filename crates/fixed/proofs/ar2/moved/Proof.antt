@@ -1,4 +1,4 @@
--- `stages::ar2::moved` meets its contract: each leaf wraps as the definition does, so the words agree term by term.
+-- `fixed::ar2::moved` meets its contract: each leaf wraps as the definition does, so the words agree term by term.
 -- Assumes nothing.
 use mathlib.Core.Path.{_∙_}
 use mathlib.Core.List.{[], _∷_}
@@ -6,12 +6,12 @@ use borrow.Author.Needs.{needs}
 use denote.Ref.{now}
 use lib.IntN.{pos, _+ℤ_, _*ℤ_}
 use mir.Syntax.{w16, w32}
 use Rattle.fixed.specs.Fixed.{wrapped, times}
-use Rattle.stages.specs.Lists.{_!_}
-use Rattle.stages.specs.Stage.Ar2.{ar2After}
+use Rattle.fixed.specs.Ar2.{_!_}
+use Rattle.fixed.specs.Ar2.{ar2After}
 use Rattle.fixed.proofs.Laws.Fit.{back}
-use Rattle.stages.proofs.ar2.moved.Statement.{statement}
-use Rattle.stages.proofs.ar2.moved.Tie as tie
+use Rattle.fixed.proofs.ar2.moved.Statement.{statement}
+use Rattle.fixed.proofs.ar2.moved.Tie as tie
 
 shl2-requires : tie.Need-shl2-requires
 shl2-requires c κs = search needs

@@ -1,16 +1,16 @@
--- `stages::ar2::filtered` meets its contract: 256 times a sample fits the word, and the sum wraps as the definition's does.
+-- `fixed::ar2::filtered` meets its contract: 256 times a sample fits the word, and the sum wraps as the definition's does.
 -- Assumes nothing.
 use borrow.Author.Needs.{needs}
 use mathlib.Core.Path.{_∙_, ap}
 use native.Mathlib.Omega.{arith}
 use lib.IntN.{pos, _+ℤ_, _*ℤ_}
 use mir.Syntax.{w16, w32}
-use Rattle.stages.specs.Lists.{_!_}
+use Rattle.fixed.specs.Ar2.{_!_}
 use Rattle.fixed.specs.Fixed.{wrapped}
-use Rattle.stages.specs.Stage.Ar2.{ar2Out}
+use Rattle.fixed.specs.Ar2.{ar2Out}
 use Rattle.fixed.proofs.Laws.Fit.{back, cast, rd, fit, widen16, scale-fits}
-use Rattle.stages.proofs.ar2.filtered.Statement.{statement}
-use Rattle.stages.proofs.ar2.filtered.Tie as tie
+use Rattle.fixed.proofs.ar2.filtered.Statement.{statement}
+use Rattle.fixed.proofs.ar2.filtered.Tie as tie
 
 element-copy-out-add : tie.Need-element-copy-out-add
 element-copy-out-add c = search needs
