@@ -1,0 +1,6 @@
+-- The laws that the proofs cite, each subject in its own file, lower ones first.
+pub mod Error
+pub mod Fractions
+pub mod Near
+pub mod Within
+pub mod Samples

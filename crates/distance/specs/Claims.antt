@@ -1,0 +1,63 @@
+-- What is claimed of the doubler, a sentence and a statement each. A word or an output is in units of a 1024th of a sample step.
+-- The proofs stand in proofs/Claims.antt.
+use mathlib.Core.Path.{_≡_}
+use mathlib.Core.Bool.{true}
+use Prim.Native.Nat.{ℕ, _*_, _≤_}
+use mathlib.Core.List.{List, [], _∷_, _++_, map}
+use lib.IntN.{ℤ, pos, natAbs, _+ℤ_, _-ℤ_}
+use lib.ListN.{take, drop, replicate}
+use Rattle.fixed.specs.Fixed.{times}
+use Rattle.stages.specs.Lists.{every, joined, _!_}
+use Rattle.stages.specs.Run.{run}
+use Rattle.stages.specs.Rom.{silk-resampler-up2-hq-0, silk-resampler-up2-hq-1}
+use Rattle.stages.specs.Section.{scaled}
+use Rattle.stages.specs.Stage.Up2Hq.{up2Raw, up2Next, up2, up2End}
+use Rattle.distance.specs.Exact.{Fraction, throughOut, throughNext, exact}
+use Rattle.distance.specs.Distance.{Within, Matched, sample?}
+
+abbrev pub fresh : List ℤ
+fresh = replicate 6 (pos 0)
+
+-- ---- before rounding
+
+-- the even output of each sample lies less than 13/1024 of a step from the exact one, the odd one less than 18/1024
+abbrev pub Close : List ℤ → Fraction × Fraction → Type 0
+Close y f = Within 13 (y ! 0) (f .0) × Within 18 (y ! 1) (f .1)
+
+unfoldable pub DoublerNear : Type 0
+DoublerNear = (xs : List ℤ) → every sample? xs ≡ true → Matched Close (run up2Raw up2Next fresh xs) (exact xs)
+
+-- ---- no sum wraps
+
+-- the sections without wrapping
+abbrev pub plainOut : ℤ → ℤ → ℤ → ℤ
+plainOut a s x = s +ℤ times a (x -ℤ s)
+
+abbrev pub plainNext : ℤ → ℤ → ℤ → ℤ
+plainNext a s x = x +ℤ times a (x -ℤ s)
+
+unfoldable pub plainRaw : List ℤ → ℤ → List ℤ
+plainRaw w x =
+    throughOut plainOut plainNext silk-resampler-up2-hq-0 (take 3 w) (scaled x)
+    ∷ throughOut plainOut plainNext silk-resampler-up2-hq-1 (drop 3 w) (scaled x)
+    ∷ []
+
+unfoldable pub plainWords : List ℤ → ℤ → List ℤ
+plainWords w x =
+    throughNext plainOut plainNext silk-resampler-up2-hq-0 (take 3 w) (scaled x)
+    ++ throughNext plainOut plainNext silk-resampler-up2-hq-1 (drop 3 w) (scaled x)
+
+-- how large the six words get, in units of 2^20
+abbrev pub bounds : List ℕ
+bounds = map (λ n. 1048576 * n) (34 ∷ 55 ∷ 203 ∷ 40 ∷ 93 ∷ 890 ∷ [])
+
+unfoldable pub NothingWraps : Type 0
+NothingWraps = (xs : List ℤ) → every sample? xs ≡ true
+    → (run up2Raw up2Next fresh xs ≡ run plainRaw plainWords fresh xs)
+    × Matched (λ s n. natAbs s ≤ n) (up2End fresh xs) bounds
+
+-- ---- one call or many
+
+-- calls in a row, each from the words that the last one left, put out what one call of all their samples does
+unfoldable pub CallsAreOne : Type 0
+CallsAreOne = (calls : List (List ℤ)) → joined (run up2 up2End fresh calls) ≡ up2 fresh (joined calls)
