@@ -3,4 +3,5 @@ pub mod Error
 pub mod Fractions
 pub mod Near
 pub mod Within
+pub mod Round
 pub mod Samples

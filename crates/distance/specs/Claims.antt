@@ -11,9 +11,9 @@ use Rattle.stages.specs.Lists.{every, joined, _!_}
 use Rattle.stages.specs.Run.{run}
 use Rattle.stages.specs.Rom.{silk-resampler-up2-hq-0, silk-resampler-up2-hq-1}
 use Rattle.stages.specs.Section.{scaled}
-use Rattle.stages.specs.Stage.Up2Hq.{up2Raw, up2Next, up2, up2End}
+use Rattle.stages.specs.Stage.Up2Hq.{up2Raw, up2Out, up2Next, up2, up2End}
 use Rattle.distance.specs.Exact.{Fraction, throughOut, throughNext, exact}
-use Rattle.distance.specs.Distance.{Within, Matched, sample?}
+use Rattle.distance.specs.Distance.{Within, held, Matched, sample?}
 
 abbrev pub fresh : List ℤ
 fresh = replicate 6 (pos 0)
@@ -26,6 +26,15 @@ Close y f = Within 13 (y ! 0) (f .0) × Within 18 (y ! 1) (f .1)
 
 unfoldable pub DoublerNear : Type 0
 DoublerNear = (xs : List ℤ) → every sample? xs ≡ true → Matched Close (run up2Raw up2Next fresh xs) (exact xs)
+
+-- ---- after rounding and clipping
+
+-- an output that is written, a sample, lies less than 525/1024 and 530/1024 of a step from the exact value, held to a sample
+abbrev pub CloseRounded : List ℤ → Fraction × Fraction → Type 0
+CloseRounded y f = Within 525 (scaled (y ! 0)) (held (f .0)) × Within 530 (scaled (y ! 1)) (held (f .1))
+
+unfoldable pub DoublerRounds : Type 0
+DoublerRounds = (xs : List ℤ) → every sample? xs ≡ true → Matched CloseRounded (run up2Out up2Next fresh xs) (exact xs)
 
 -- ---- no sum wraps
 

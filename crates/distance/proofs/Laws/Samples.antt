@@ -14,13 +14,14 @@ use Rattle.stages.specs.Lists.{every}
 use Rattle.stages.specs.Run.{run, end}
 use Rattle.stages.specs.Rom.{silk-resampler-up2-hq-0, silk-resampler-up2-hq-1}
 use Rattle.stages.specs.Section.{scaled, rowNext}
-use Rattle.stages.specs.Stage.Up2Hq.{up2Even, up2Odd, up2Raw, up2Next, up2End}
+use Rattle.stages.specs.Stage.Up2Hq.{up2Even, up2Odd, up2Raw, up2Out, up2Next, up2End}
 use Rattle.stages.proofs.Laws.Lists.{both-true}
 use Rattle.distance.specs.Exact.{Fraction, whole, throughNext, exactOut, exactNext, exactBoth, exactWords, exact}
 use Rattle.distance.specs.Distance.{Matched, sample?}
-use Rattle.distance.specs.Claims.{Close, fresh, plainRaw, plainWords, bounds as sizes}
+use Rattle.distance.specs.Claims.{Close, CloseRounded, fresh, plainRaw, plainWords, bounds as sizes}
 use Rattle.distance.proofs.Laws.Near.{Near, Bounds, RowNear, tests, row-out, row-next, row-lengths, row-plain, row-sizes}
 use Rattle.distance.proofs.Laws.Within.{within}
+use Rattle.distance.proofs.Laws.Round.{rounds}
 
 abbrev bounds : ℕ → ℕ → ℕ → ℕ → ℕ → ℕ → Bounds
 bounds a b word out off outOff = record { a = a; b = b; word = 1048576 * word; out = 1048576 * out; off = off; outOff = outOff }
@@ -141,10 +142,20 @@ plain-run D w f h (x ∷ xs) k =
     let (r, b) = plain-run (65536 * D) (up2Next w x) (exactWords f x) (moved D w f h x k1) xs k2 in
     ((λ i. o i ∷ (r ∙ ap (λ (v : List ℤ). run plainRaw plainWords v xs) n) i), b)
 
-pub near : (D : ℕ) (w : List ℤ) (f : List Fraction) → State D w f → 0 < D → (xs : List ℤ) → every sample? xs ≡ true
-    → Matched Close (run up2Raw up2Next w xs) (run exactBoth exactWords f xs)
-unfolding run
-near D w f h s [] k = tt
-near D w f h s (x ∷ xs) k =
-    let (k1, k2) = both-true (sample? x) _ k in
-    (close D w f h x k1 s, near (65536 * D) (up2Next w x) (exactWords f x) (moved D w f h x k1) (omega arith) xs k2)
+-- what holds of the outputs of each sample holds of all
+module _ (out : List ℤ → ℤ → List ℤ) (R : List ℤ → Fraction × Fraction → Type 0)
+    (one : (D : ℕ) (w : List ℤ) (f : List Fraction) → State D w f → (x : ℤ) → sample? x ≡ true → 0 < D → R (out w x) (exactBoth f x)) where
+  pub all : (D : ℕ) (w : List ℤ) (f : List Fraction) → State D w f → 0 < D → (xs : List ℤ) → every sample? xs ≡ true
+      → Matched R (run out up2Next w xs) (run exactBoth exactWords f xs)
+  unfolding run
+  all D w f h s [] k = tt
+  all D w f h s (x ∷ xs) k =
+      let (k1, k2) = both-true (sample? x) _ k in
+      (one D w f h x k1 s, all (65536 * D) (up2Next w x) (exactWords f x) (moved D w f h x k1) (omega arith) xs k2)
+
+-- after rounding
+pub close-rounded : (D : ℕ) (w : List ℤ) (f : List Fraction) → State D w f → (x : ℤ) → sample? x ≡ true → 0 < D → CloseRounded (up2Out w x) (exactBoth f x)
+unfolding up2Raw up2Out
+close-rounded D w f h x k s =
+    let (e, o) = close D w f h x k s in
+    (rounds 13 (up2Even w x) (exactBoth f x .0) (omega arith) e, rounds 18 (up2Odd w x) (exactBoth f x .1) (omega arith) o)
