@@ -1,22 +1,20 @@
 -- The claims of specs/Claims.antt. Assumes nothing.
-use mathlib.Core.Path.{_≡_, sym, ap, _∙_}
+use mathlib.Core.Path.{_≡_, refl, sym, ap, _∙_}
 use mathlib.Core.List.{List, [], _∷_, _++_}
 use native.Mathlib.Omega.{arith}
 use lib.IntN.{ℤ, pos}
-use lib.ListN.{replicate}
+use lib.ListN.{replicate, length-replicate}
 use Rattle.stages.specs.Lists.{joined}
-use Rattle.stages.specs.Run.{run, end}
-use Rattle.stages.specs.Stage.Up2Hq.{up2Raw, up2Out, up2Next, up2, up2End}
+use Rattle.stages.specs.Run.{run}
+use Rattle.stages.specs.Stage.Up2Hq.{up2Raw, up2Out, up2, up2End}
 use Rattle.stages.proofs.Laws.Parts.{up2-nothing}
-use Rattle.stages.proofs.Laws.Run.{run-append, joined-append}
-use Rattle.distance.specs.Claims.{fresh, Close, CloseRounded, DoublerNear, DoublerRounds, NothingWraps, CallsAreOne}
+use Rattle.distance.specs.Claims.{fresh, Close, CloseRounded, DoublerNear, DoublerRounds, NothingWraps, CallsAreOne, LinesDouble}
 use Rattle.distance.specs.Exact.{whole, exact}
+use Rattle.resampler.specs.declared.Record.{Record}
+use Rattle.resampler.specs.Pairs.{delay}
+use Rattle.resampler.specs.Resample.{converted, after}
+use Rattle.distance.proofs.Laws.Lines.{up2-append, opened, lines}
 use Rattle.distance.proofs.Laws.Samples.{started, plain-run, close, close-rounded, all}
-
--- a call and then another put out what one call of both does
-up2-append : (w xs ys : List ℤ) → up2 w (xs ++ ys) ≡ up2 w xs ++ up2 (up2End w xs) ys
-unfolding up2 up2End
-up2-append w xs ys = ap joined (run-append up2Out up2Next w xs ys) ∙ joined-append (run up2Out up2Next w xs) (run up2Out up2Next (end up2Next w xs) ys)
 
 calls : (w : List ℤ) (xss : List (List ℤ)) → joined (run up2 up2End w xss) ≡ up2 w (joined xss)
 unfolding run joined
@@ -38,3 +36,10 @@ doubler-rounds xs k = all up2Out CloseRounded close-rounded 1 fresh (replicate 6
 pub nothing-wraps : NothingWraps
 unfolding NothingWraps
 nothing-wraps xs k = plain-run 1 fresh (replicate 6 (whole (pos 0))) started xs k
+
+pub lines-double : LinesDouble
+unfolding LinesDouble
+lines-double p h q xss =
+    let all = joined xss in
+    ap (λ (s : Record). joined (run converted after s xss)) (opened p h q)
+    ∙ lines p h q fresh (replicate (delay p) (pos 0)) refl (length-replicate (delay p) (pos 0)) xss

@@ -5,3 +5,4 @@ pub mod Near
 pub mod Within
 pub mod Round
 pub mod Samples
+pub mod Lines

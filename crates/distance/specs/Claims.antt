@@ -5,13 +5,16 @@ use mathlib.Core.Bool.{true}
 use Prim.Native.Nat.{ℕ, _*_, _≤_}
 use mathlib.Core.List.{List, [], _∷_, _++_, map}
 use lib.IntN.{ℤ, pos, natAbs, _+ℤ_, _-ℤ_}
-use lib.ListN.{take, drop, replicate}
+use lib.ListN.{length, take, drop, replicate}
 use Rattle.fixed.specs.Fixed.{times}
 use Rattle.stages.specs.Lists.{every, joined, _!_}
 use Rattle.stages.specs.Run.{run}
 use Rattle.stages.specs.Rom.{silk-resampler-up2-hq-0, silk-resampler-up2-hq-1}
 use Rattle.stages.specs.Section.{scaled}
 use Rattle.stages.specs.Stage.Up2Hq.{up2Raw, up2Out, up2Next, up2, up2End}
+use Rattle.resampler.specs.Pairs.{Pair, supported, path, doubler, delay}
+use Rattle.resampler.specs.Record.{fresh as opened}
+use Rattle.resampler.specs.Resample.{converted, after}
 use Rattle.distance.specs.Exact.{Fraction, throughOut, throughNext, exact}
 use Rattle.distance.specs.Distance.{Within, held, Matched, sample?}
 
@@ -70,3 +73,10 @@ NothingWraps = (xs : List ℤ) → every sample? xs ≡ true
 -- calls in a row, each from the words that the last one left, put out what one call of all their samples does
 unfoldable pub CallsAreOne : Type 0
 CallsAreOne = (calls : List (List ℤ)) → joined (run up2 up2End fresh calls) ≡ up2 fresh (joined calls)
+
+-- ---- the lines that double
+
+-- opened at a pair of twice the rate, call after call: what a line puts out is the doubler's, of the input behind the delay
+unfoldable pub LinesDouble : Type 0
+LinesDouble = (p : Pair) → supported p ≡ true → path p ≡ doubler → (calls : List (List ℤ)) → let all = joined calls in
+    joined (run converted after (opened p) calls) ≡ up2 fresh (take (length all) (replicate (delay p) (pos 0) ++ all))
