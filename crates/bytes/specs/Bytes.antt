@@ -5,7 +5,7 @@ use lib.Dec.{ltb}
 use lib.IntN.{ℤ, pos, negsuc}
 use lib.ListN.{take, drop}
 use Rattle.fixed.specs.Choice.{if_then_else_}
-use Rattle.stages.specs.Lists.{tabulate}
+use Rattle.filters.specs.Lists.{tabulate}
 
 -- k bytes of a number, the low one first, and the number of such bytes
 unfoldable pub bytes : ℕ → ℕ → List ℕ

@@ -4,9 +4,9 @@ use mathlib.Core.List.{List, [], _∷_, _++_}
 use native.Mathlib.Omega.{arith}
 use lib.IntN.{ℤ, pos}
 use lib.ListN.{replicate, length-replicate}
-use Rattle.stages.specs.Lists.{joined}
-use Rattle.stages.specs.Run.{run}
-use Rattle.stages.specs.Stage.Up2Hq.{up2Raw, up2Out, up2, up2End}
+use Rattle.filters.specs.Lists.{joined}
+use Rattle.filters.specs.Run.{run}
+use Rattle.filters.specs.Stage.Up2Hq.{up2Raw, up2Out, up2, up2End}
 use Rattle.stages.proofs.Laws.Parts.{up2-nothing}
 use Rattle.distance.specs.Claims.{fresh, Close, CloseRounded, DoublerNear, DoublerRounds, NothingWraps, CallsAreOne, LinesDouble}
 use Rattle.distance.specs.Exact.{whole, exact}

@@ -3,9 +3,9 @@ use Prim.Native.Nat.{ℕ, _*_}
 use mathlib.Core.List.{List, [], _∷_, _++_}
 use lib.IntN.{ℤ, pos, _+ℤ_, _-ℤ_, _*ℤ_}
 use lib.ListN.{take, drop, replicate}
-use Rattle.stages.specs.Run.{run}
-use Rattle.stages.specs.Rom.{silk-resampler-up2-hq-0, silk-resampler-up2-hq-1}
-use Rattle.stages.specs.Section.{scaled}
+use Rattle.filters.specs.Run.{run}
+use Rattle.filters.specs.Rom.{silk-resampler-up2-hq-0, silk-resampler-up2-hq-1}
+use Rattle.filters.specs.Section.{scaled}
 
 -- ---- fractions
 

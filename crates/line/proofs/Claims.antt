@@ -8,8 +8,8 @@ use borrow.Author.Tests.{eqb-true}
 use lib.Dec.{eqb}
 use lib.ListN.{length}
 use lib.Seq.{take-all, take-at, drop-at}
-use Rattle.stages.specs.Lists.{joined, every}
-use Rattle.stages.proofs.Laws.Lists.{both-true}
+use Rattle.filters.specs.Lists.{joined, every}
+use Rattle.filters.proofs.Laws.Lists.{both-true}
 use Rattle.resampler.specs.declared.Record.{Record}
 use Rattle.resampler.specs.Pairs.{Pair, supported}
 use Rattle.resampler.specs.Record.{pairOf}

@@ -5,7 +5,7 @@ use Prim.Native.Nat.{ℕ, _*_, _<_}
 use mathlib.Core.List.{List, [], _∷_, _++_}
 use lib.Dec.{eqb}
 use lib.ListN.{length}
-use Rattle.stages.specs.Lists.{joined, every}
+use Rattle.filters.specs.Lists.{joined, every}
 use Rattle.resampler.specs.declared.Record.{Record}
 use Rattle.bytes.specs.Bytes.{laid}
 use Rattle.resampler.specs.Block.{blockOf, recordIn, resumeRow}

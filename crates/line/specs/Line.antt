@@ -5,7 +5,7 @@ use lib.Dec.{eqb}
 use lib.IntN.{ℤ}
 use lib.ListN.{length, take, drop}
 use Rattle.fixed.specs.Choice.{if_then_else_}
-use Rattle.stages.specs.Run.{passOut, passEnd}
+use Rattle.filters.specs.Run.{passOut, passEnd}
 use Rattle.resampler.specs.declared.Record.{Record}
 use Rattle.resampler.specs.Resample.{converted, after}
 use Rattle.bytes.specs.Bytes.{laid, wordsAt}

@@ -1,16 +1,16 @@
 // The stages as C functions, to be measured and compared from other languages. A slice is a pointer and a length; words go in
 // and out by value, in structs, for C passes no arrays so. What a stage would not take is refused here: nothing is
 // written, and the words come back as they were given.
+use filters::rates::Rates;
+use filters::rom;
 use resampler::Record;
 use stages::Answer;
-use stages::Rates;
-use stages::rom;
 ghost use mathlib.Core.Path.{_≡_};
 ghost use mathlib.Core.Bool.{true};
 ghost use Prim.Native.Nat.{_*_, _%_, _<_, _≤_};
 ghost use lib.ListN.{length};
-ghost use Rattle.stages.specs.Reader.{outputs, Steady};
-ghost use Rattle.stages.specs.Stage.DownFir.{Fitting};
+ghost use Rattle.filters.specs.Reader.{outputs, Steady};
+ghost use Rattle.filters.specs.Stage.DownFir.{Fitting};
 
 // The words of the 1/2 decimator and of the split.
 #[repr(C)]

@@ -1,19 +1,19 @@
 -- The claims of specs/Claims.antt. Assumes nothing.
 use mathlib.Core.Path.{refl}
 use lib.ListN.{length}
-use Rattle.stages.specs.Lists as Lists
-use Rattle.stages.specs.Run as Run
+use Rattle.filters.specs.Lists as Lists
+use Rattle.filters.specs.Run as Run
 use Rattle.fixed.specs.Fixed as Fixed
 use Rattle.fixed.specs.Ar2 as Step
-use Rattle.stages.specs.Rom as Rom
-use Rattle.stages.specs.Section as Section
-use Rattle.stages.specs.Reader as Reader
-use Rattle.stages.specs.Stage.Ar2 as Ar2
-use Rattle.stages.specs.Stage.Up2Hq as Up2Hq
-use Rattle.stages.specs.Stage.IirFir as IirFir
-use Rattle.stages.specs.Stage.Down2 as Down2
-use Rattle.stages.specs.Stage.Down2_3 as Down23
-use Rattle.stages.specs.Stage.AnaFiltBank1 as AnaFiltBank1
+use Rattle.filters.specs.Rom as Rom
+use Rattle.filters.specs.Section as Section
+use Rattle.filters.specs.Reader as Reader
+use Rattle.filters.specs.Stage.Ar2 as Ar2
+use Rattle.filters.specs.Stage.Up2Hq as Up2Hq
+use Rattle.filters.specs.Stage.IirFir as IirFir
+use Rattle.filters.specs.Stage.Down2 as Down2
+use Rattle.filters.specs.Stage.Down2_3 as Down23
+use Rattle.filters.specs.Stage.AnaFiltBank1 as AnaFiltBank1
 use Rattle.resampler.specs.Pairs as Pairs
 use Rattle.resampler.specs.Record as Record
 use Rattle.resampler.specs.Resample as Resample

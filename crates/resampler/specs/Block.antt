@@ -7,7 +7,7 @@ use lib.IntN.{ℤ, pos, negsuc}
 use lib.ListN.{length, take, drop, getD, replicate}
 use Rattle.fixed.specs.Choice.{if_then_else_}
 use Rattle.bytes.specs.Bytes.{bytes, value, laid, wordsAt}
-use Rattle.stages.specs.Lists.{every}
+use Rattle.filters.specs.Lists.{every}
 use Rattle.stages.specs.declared.answer.Answer.the-variants.{Done}
 use Rattle.stages.specs.Outcome.{Outcome, outcome, ruled}
 use Rattle.resampler.specs.declared.Record.{Record}

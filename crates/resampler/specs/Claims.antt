@@ -6,7 +6,7 @@ use Prim.Native.Nat.{ℕ, _*_, _/_, _^_}
 use lib.Dec.{ltb, leb}
 use lib.IntN.{ℤ, pos, negsuc}
 use lib.ListN.{length}
-use Rattle.stages.specs.Lists.{every}
+use Rattle.filters.specs.Lists.{every}
 use Rattle.stages.specs.declared.answer.Answer.the-variants.{Done}
 use Rattle.stages.specs.Outcome.{outcome}
 use Rattle.stages.specs.Claims.{Fixed}

@@ -5,7 +5,7 @@ use mathlib.Core.List.{List, [], _∷_, _++_, map, flatMap}
 use lib.Dec.{ltb, eqb}
 use lib.ListN.{getD}
 use Rattle.fixed.specs.Choice.{if_then_else_}
-use Rattle.stages.specs.Stage.DownFir.{Filter, down-3/4, down-2/3, down-1/2, down-1/3, down-1/4, down-1/6}
+use Rattle.filters.specs.Stage.DownFir.{Filter, down-3/4, down-2/3, down-1/2, down-1/3, down-1/4, down-1/6}
 
 -- direction 1 is the encoder's, 0 the decoder's
 pub record Pair : Type 0 where

@@ -5,13 +5,13 @@ use mathlib.Core.Bool.{true}
 use mathlib.Core.List.{List, [], _++_}
 use lib.IntN.{ℤ}
 use lib.ListN.{length, take, drop}
-use Rattle.stages.specs.declared.rates.Rates.{Rates}
-use Rattle.stages.specs.Run.{passOut, passEnd}
-use Rattle.stages.specs.Stage.Ar2.{ar2End}
-use Rattle.stages.specs.Stage.Up2Hq.{up2, up2End}
-use Rattle.stages.specs.Stage.IirFir.{iirFir, iirFirCarried}
-use Rattle.stages.specs.Reader.{Steady, outputs}
-use Rattle.stages.specs.Stage.DownFir.{Filter, downFir, downFirCarried}
+use Rattle.filters.specs.declared.rates.Rates.{Rates}
+use Rattle.filters.specs.Run.{passOut, passEnd}
+use Rattle.filters.specs.Stage.Ar2.{ar2End}
+use Rattle.filters.specs.Stage.Up2Hq.{up2, up2End}
+use Rattle.filters.specs.Stage.IirFir.{iirFir, iirFirCarried}
+use Rattle.filters.specs.Reader.{Steady, outputs}
+use Rattle.filters.specs.Stage.DownFir.{Filter, downFir, downFirCarried}
 use Rattle.resampler.specs.declared.Record.{Record}
 use Rattle.resampler.specs.Pairs.{Pair, Path, copy, doubler, interpolator, down, supported, path, increment}
 use Rattle.resampler.specs.Record.{Words, arrays, pairOf, live, liveDelay, keeping, recordOf}

@@ -5,7 +5,7 @@ ghost use mathlib.Core.Path.{_≡_};
 ghost use mathlib.Core.Bool.{true};
 ghost use Prim.Native.Nat.{_≤_};
 ghost use lib.ListN.{length, take, drop};
-ghost use Rattle.stages.specs.Lists.{padded, every};
+ghost use Rattle.filters.specs.Lists.{padded, every};
 ghost use Rattle.resampler.specs.Pairs as Pairs;
 ghost use Rattle.resampler.specs.Pairs.{pair, path};
 ghost use Rattle.resampler.specs.Record as Records;

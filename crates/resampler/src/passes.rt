@@ -2,17 +2,17 @@
 // specs/Resample.antt. Each takes the record and returns it with the path's words moved on and all others zero.
 use crate::Record;
 use crate::pairs;
+use filters::rates::Rates;
+use filters::rom;
 use stages::DownWords;
 use stages::IirFirWords;
-use stages::Rates;
-use stages::rom;
 ghost use mathlib.Core.Path.{_≡_};
 ghost use mathlib.Core.Bool.{true};
 ghost use Prim.Native.Nat.{_*_, _%_, _<_, _≤_};
 ghost use lib.ListN.{length};
 ghost use Rattle.stages.specs.Outcome.{Staged};
-ghost use Rattle.stages.specs.Reader.{Steady, outputs};
-ghost use Rattle.stages.specs.Stage.DownFir.{Fitting, filterOf, down-3/4, down-2/3, down-1/2, down-1/3, down-1/4, down-1/6};
+ghost use Rattle.filters.specs.Reader.{Steady, outputs};
+ghost use Rattle.filters.specs.Stage.DownFir.{Fitting, filterOf, down-3/4, down-2/3, down-1/2, down-1/3, down-1/4, down-1/6};
 ghost use Rattle.resampler.specs.Pairs as Pairs;
 ghost use Rattle.resampler.specs.Record.{pairOf, live};
 ghost use Rattle.resampler.specs.Resample.{ratesOf, made, pass as passing, passed, Lowering, Taking};

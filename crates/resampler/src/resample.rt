@@ -7,7 +7,7 @@ use stages::Answer;
 ghost use mathlib.Core.Path.{_≡_};
 ghost use Prim.Native.Nat.{_≤_};
 ghost use lib.ListN.{length};
-ghost use Rattle.stages.specs.Lists.{padded};
+ghost use Rattle.filters.specs.Lists.{padded};
 ghost use Rattle.stages.specs.Outcome.{outcome, Staged};
 ghost use Rattle.resampler.specs.Entry as Entry;
 ghost use Rattle.resampler.specs.Pairs as Pairs;

@@ -11,7 +11,7 @@ ghost use lib.Dec.{eqb};
 ghost use lib.ListN.{length, take, drop, getD};
 ghost use Rattle.fixed.specs.Choice.{if_then_else_};
 ghost use Rattle.stages.specs.declared.answer.Answer.the-variants.{Refused};
-ghost use Rattle.stages.specs.Lists.{every};
+ghost use Rattle.filters.specs.Lists.{every};
 ghost use Rattle.stages.specs.Outcome.{outcome};
 ghost use Rattle.resampler.specs.Record as Records;
 ghost use Rattle.bytes.specs.Bytes as Bytes;

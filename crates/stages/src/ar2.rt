@@ -1,10 +1,10 @@
 // AR2, the two-pole filter before the taps of a down filter.
-// From silk/resampler/ar2.rs. Meaning: specs/Stage/Ar2.antt. Unlike the Rust, the words go in and out by value.
+// From silk/resampler/ar2.rs. Meaning: Stage/Ar2.antt of filters. Unlike the Rust, the words go in and out by value.
 use fixed::ar2::Words;
 ghost use Prim.Native.Nat.{_≤_};
 ghost use lib.ListN.{length};
 ghost use Rattle.stages.specs.Outcome.{Staged};
-ghost use Rattle.stages.specs.Stage.Ar2.{ar2, ar2End};
+ghost use Rattle.filters.specs.Stage.Ar2.{ar2, ar2End};
 
 // Filters the input into the front of the output and returns the words after it. AQ14 is a table that begins with A0 and A1.
 pub fn silk_resampler_private_AR2(

@@ -1,43 +1,20 @@
 // The down filters: AR2, and then as many taps as the order for each output.
-// From silk/resampler/down_fir.rs. Meaning: specs/Reader.antt, specs/Stage/DownFir.antt. Unlike the Rust, the words go in
-// and out by value, the table and the order come with the call, and the number of outputs is counted.
+// From silk/resampler/down_fir.rs. Meaning: Reader.antt and Stage/DownFir.antt of filters. Unlike the Rust, the words go in and
+// out by value, the table and the order come with the call, and the number of outputs is counted.
 use crate::ar2;
-use crate::rates;
-use crate::rates::Rates;
-use crate::taps;
 use crate::words;
+use filters::down_fir::output;
+use filters::rates;
+use filters::rates::Rates;
 ghost use mathlib.Core.Path.{_≡_};
 ghost use mathlib.Core.List.{_++_};
 ghost use Prim.Native.Nat.{_+_, _*_, _-_, _/_, _%_, _<_, _≤_};
 ghost use lib.ListN.{length, take};
-ghost use Rattle.stages.specs.Lists.{padded};
-ghost use Rattle.stages.specs.Reader.{read as reading, outputs, Steady};
+ghost use Rattle.filters.specs.Lists.{padded};
+ghost use Rattle.filters.specs.Reader.{read as reading, outputs, Steady};
 ghost use Rattle.stages.specs.Outcome.{over, Staged};
-ghost use Rattle.stages.specs.Stage.Ar2.{ar2 as filtered, ar2End};
-ghost use Rattle.stages.specs.Stage.DownFir.{Fitting, filterOf, apart, fir, downBatch, downNext, downPass, downEnd};
-
-// Order 18: nine taps of the fraction's row forward, nine of its mirror backward.
-fn apart_of(cs: &[i16], rows: usize, fraction: usize, ys: &[i32]) -> i32
-    requires { ⌜ (length (now cs) ≡ 2 + 9 * rows) × (0 < rows) × (rows ≤ 3) × (fraction < 65536) × (18 ≤ length (now ys)) ⌝ }
-    ensures { λ r. ⌜ r ≡ apart (filterOf 18 (now (cs .entry))) fraction (now (ys .entry)) ⌝ }
-{
-    let k = fraction * rows / 65536;
-    let m = rows - 1 - k;
-    let front = taps::nine_forward(0, cs, 2 + 9 * k, ys);
-    taps::nine_backward(front, cs, 2 + 9 * m, ys)
-}
-
-// One output: the samples from a whole position on, at a fraction.
-fn output(cs: &[i16], order: usize, rows: usize, fraction: usize, ys: &[i32]) -> i16
-    requires { ⌜ Fitting order rows (now cs) ⌝ }
-    requires { ⌜ (fraction < 65536) × (order ≤ length (now ys)) ⌝ }
-    ensures { λ r. ⌜ r ≡ fir (filterOf order (now (cs .entry))) fraction (now (ys .entry)) ⌝ }
-{
-    if order <= 18 {
-        return fixed::narrow(apart_of(cs, rows, fraction, ys), 6);
-    }
-    fixed::narrow(taps::half_inward(cs, 2, ys, order), 6)
-}
+ghost use Rattle.filters.specs.Stage.Ar2.{ar2 as filtered, ar2End};
+ghost use Rattle.filters.specs.Stage.DownFir.{Fitting, filterOf, fir, downBatch, downNext, downPass, downEnd};
 
 // The first n outputs that are read from the buffer, an increment apart.
 fn read(

@@ -1,7 +1,6 @@
 // The stages of the SILK resampler, with the two decimators and the two-band split: samples and carried words in, samples
-// and carried words out, no pairs and no records. Each file has the name of the Rust's; `allpass`, `answer`, `rates`,
-// `taps` and `words` are ours; the word arithmetic is the crate `fixed`.
-mod allpass;
+// and carried words out, no pairs and no records. Each file has the name of the Rust's; `answer` and `words` are ours; what
+// is made of a sample or read for an output is the crate `filters`.
 mod ana_filt_bank_1;
 mod answer;
 mod ar2;
@@ -9,9 +8,6 @@ mod down2;
 mod down2_3;
 mod down_fir;
 mod iir_fir;
-mod rates;
-pub mod rom;
-mod taps;
 mod up2_hq;
 mod words;
 
@@ -29,6 +25,5 @@ pub use down2_3::silk_resampler_down2_3;
 pub use iir_fir::IirFirPass;
 pub use iir_fir::IirFirWords;
 pub use iir_fir::silk_resampler_private_IIR_FIR;
-pub use rates::Rates;
 pub use up2_hq::silk_resampler_private_up2_HQ;
 pub use words::copy_samples;

@@ -15,7 +15,7 @@ use mir.Syntax.{Width}
 use mir.Val.{SFits, toZ, ofZ, bits, hbits, sel}
 use mir.ValLaws.{toZ-pos, toZ-neg}
 use Rattle.fixed.specs.Choice.{if_then_else_}
-use Rattle.stages.proofs.Laws.Lists.{drop-next, drop-none}
+use Rattle.filters.proofs.Laws.Lists.{drop-next, drop-none}
 use Rattle.bytes.specs.Bytes.{bytes, value, bitsOf, wordOf, laid}
 
 -- ---- a word and its bits

@@ -8,8 +8,8 @@ use native.Mathlib.Numerals.{add-one}
 use native.Mathlib.Omega.{arith}
 use lib.IntN.{ℤ, pos}
 use lib.ListN.{length, take, drop, set, getD}
-use Rattle.stages.specs.Lists.{tabulate}
-use Rattle.stages.proofs.Laws.Lists.{tabulate-length, tabulate-next, tabulate-none, drop-none}
+use Rattle.filters.specs.Lists.{tabulate}
+use Rattle.filters.proofs.Laws.Lists.{tabulate-length, tabulate-next, tabulate-none, drop-none}
 use Rattle.stages.proofs.Laws.Loop.{Filling, fill-start, fill-one, fill-end}
 use Rattle.bytes.specs.Bytes.{bytes, value, bitsOf, wordOf, laid, wordsAt}
 use Rattle.bytes.proofs.Laws.Bytes.{bytes-length, laid-length, laid-next, laid-none}

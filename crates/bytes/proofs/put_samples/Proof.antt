@@ -8,7 +8,7 @@ use denote.Ref.{now}
 use lib.ListN.{length}
 use mir.Syntax.{w16}
 use Rattle.fixed.proofs.Laws.Fit.{back}
-use Rattle.stages.specs.Lists.{_!_}
+use Rattle.filters.specs.Lists.{_!_}
 use Rattle.bytes.specs.Bytes.{bitsOf}
 use Rattle.bytes.proofs.Laws.Laying.{Laying, lay-start, lay-room, lay-turn, lay-end}
 use Rattle.bytes.proofs.put_samples.Statement.{statement}

@@ -8,12 +8,12 @@ use native.Mathlib.Omega.{arith}
 use lib.IntN.{ℤ, pos}
 use lib.ListN.{length, take, drop, replicate, length-append, length-drop, length-replicate, take-append-drop}
 use lib.Seq.{take-add, take-append-le, drop-append-le}
-use Rattle.stages.specs.Lists.{joined, padded}
-use Rattle.stages.specs.Run.{run, end}
-use Rattle.stages.specs.Stage.Up2Hq.{up2Out, up2Next, up2, up2End}
-use Rattle.stages.proofs.Laws.Run.{run-append, end-append, joined-append}
-use Rattle.stages.proofs.Laws.Lengths.{up2End-length}
-use Rattle.stages.proofs.Laws.Lists.{take-padded}
+use Rattle.filters.specs.Lists.{joined, padded}
+use Rattle.filters.specs.Run.{run, end}
+use Rattle.filters.specs.Stage.Up2Hq.{up2Out, up2Next, up2, up2End}
+use Rattle.filters.proofs.Laws.Run.{run-append, end-append, joined-append}
+use Rattle.filters.proofs.Laws.Lengths.{up2End-length}
+use Rattle.filters.proofs.Laws.Lists.{take-padded}
 use Rattle.stages.proofs.Laws.Parts.{up2-nothing}
 use Rattle.resampler.specs.declared.Record.{Record}
 use Rattle.resampler.specs.Pairs.{Pair, supported, path, doubler, delay}

@@ -15,8 +15,8 @@ use Rattle.fixed.specs.Fixed.{wrapped, times}
 use Rattle.fixed.proofs.Laws.Integer.{P, N, pn-abs, Floor, shr-floor}
 use Rattle.fixed.proofs.Laws.Ring.{#, lit, _⊕_, _⊖_, _⊗_, of, eqZ}
 use Rattle.fixed.proofs.Laws.Wrap.{pn-fits, wrap-id}
-use Rattle.stages.specs.Section.{sectionX, sectionOut, sectionNext, rowOut, rowNext}
-use Rattle.stages.proofs.Laws.Lists.{both-true}
+use Rattle.filters.specs.Section.{sectionX, sectionOut, sectionNext, rowOut, rowNext}
+use Rattle.filters.proofs.Laws.Lists.{both-true}
 use Rattle.distance.specs.Exact.{Fraction, exactOut, exactNext, throughOut, throughNext}
 use Rattle.distance.specs.Distance.{Matched}
 use Rattle.distance.specs.Claims.{plainOut, plainNext}

@@ -13,7 +13,7 @@ use Rattle.fixed.specs.Fixed.{rounded, narrowed}
 use Rattle.fixed.proofs.Laws.Integer.{P, N, pn-abs, p-neg, n-neg, p-scale, n-scale, Floor, shr-floor}
 use Rattle.fixed.proofs.Laws.Ring.{#, lit, _⊕_, _⊖_, _⊗_, of}
 use Rattle.fixed.proofs.Laws.Narrow.{clip-low, clip-high, clip-mid}
-use Rattle.stages.specs.Section.{scaled}
+use Rattle.filters.specs.Section.{scaled}
 use Rattle.distance.specs.Exact.{Fraction}
 use Rattle.distance.specs.Distance.{Within, held}
 use Rattle.distance.proofs.Laws.Within.{closer}

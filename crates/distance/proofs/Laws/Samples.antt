@@ -10,12 +10,12 @@ use lib.ListN.{take, drop, replicate, take-append-drop}
 use lib.Seq.{take-at, drop-at}
 use Rattle.fixed.proofs.Laws.Integer.{pn-abs, p-scale, n-scale}
 use Rattle.fixed.proofs.Laws.Ring.{#, lit, _⊖_, _⊗_, eqZ}
-use Rattle.stages.specs.Lists.{every}
-use Rattle.stages.specs.Run.{run, end}
-use Rattle.stages.specs.Rom.{silk-resampler-up2-hq-0, silk-resampler-up2-hq-1}
-use Rattle.stages.specs.Section.{scaled, rowNext}
-use Rattle.stages.specs.Stage.Up2Hq.{up2Even, up2Odd, up2Raw, up2Out, up2Next, up2End}
-use Rattle.stages.proofs.Laws.Lists.{both-true}
+use Rattle.filters.specs.Lists.{every}
+use Rattle.filters.specs.Run.{run, end}
+use Rattle.filters.specs.Rom.{silk-resampler-up2-hq-0, silk-resampler-up2-hq-1}
+use Rattle.filters.specs.Section.{scaled, rowNext}
+use Rattle.filters.specs.Stage.Up2Hq.{up2Even, up2Odd, up2Raw, up2Out, up2Next, up2End}
+use Rattle.filters.proofs.Laws.Lists.{both-true}
 use Rattle.distance.specs.Exact.{Fraction, whole, throughNext, exactOut, exactNext, exactBoth, exactWords, exact}
 use Rattle.distance.specs.Distance.{Matched, sample?}
 use Rattle.distance.specs.Claims.{Close, CloseRounded, fresh, plainRaw, plainWords, bounds as sizes}

@@ -11,10 +11,10 @@ use lib.IntN.{ℤ}
 use lib.ListN.{length, take, drop, length-append, length-drop, drop-of-length-le}
 use lib.Seq.{take-all, take-at, length-take-le}
 use Rattle.stages.specs.declared.answer.Answer.{Answer}
-use Rattle.stages.specs.Lists.{tabulate, joined, cut}
-use Rattle.stages.specs.Run.{run, end, passOut, passEnd}
+use Rattle.filters.specs.Lists.{tabulate, joined, cut}
+use Rattle.filters.specs.Run.{run, end, passOut, passEnd}
 use Rattle.stages.specs.Outcome.{Outcome, outcome, over}
-use Rattle.stages.proofs.Laws.Lists.{tabulate-length, cut-nil, cut-next}
+use Rattle.filters.proofs.Laws.Lists.{tabulate-length, cut-nil, cut-next}
 use Rattle.resampler.specs.declared.Record.{Record}
 use Rattle.resampler.specs.Pairs.{Pair, supported}
 use Rattle.resampler.specs.Record.{pairOf}

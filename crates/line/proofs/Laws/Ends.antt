@@ -11,10 +11,10 @@ use lib.ListN.{length, take, drop, getD, length-append}
 use Rattle.fixed.specs.Choice.{if_then_else_}
 use Rattle.stages.specs.declared.answer.Answer.{Answer}
 use Rattle.stages.specs.declared.answer.Answer.the-variants.{Done, Refused}
-use Rattle.stages.specs.Lists.{every, cut}
-use Rattle.stages.specs.Run.{passEnd}
+use Rattle.filters.specs.Lists.{every, cut}
+use Rattle.filters.specs.Run.{passEnd}
 use Rattle.stages.specs.Outcome.{Outcome, outcome, number}
-use Rattle.stages.proofs.Laws.Run.{end-keeps}
+use Rattle.filters.proofs.Laws.Run.{end-keeps}
 use Rattle.resampler.specs.declared.Record.{Record}
 use Rattle.resampler.specs.Pairs.{supported}
 use Rattle.resampler.specs.Record.{pairOf, dead, keeping, recordOf, blank}

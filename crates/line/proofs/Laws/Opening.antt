@@ -13,7 +13,7 @@ use Rattle.fixed.specs.Choice.{if_then_else_}
 use Rattle.stages.specs.declared.answer.Answer.{Answer}
 use Rattle.stages.specs.declared.answer.Answer.the-variants.{Done}
 use Rattle.stages.specs.Outcome.{Outcome, outcome, number, ruled}
-use Rattle.stages.proofs.Laws.Lists.{drop-next, drop-none, both-true}
+use Rattle.filters.proofs.Laws.Lists.{drop-next, drop-none, both-true}
 use Rattle.resampler.specs.declared.Record.{Record}
 use Rattle.resampler.specs.Pairs.{Pair, pair, supported}
 use Rattle.resampler.specs.Record.{keeping, recordOf, fresh, blank}

@@ -11,9 +11,9 @@ use lib.IntN.{ℤ}
 use lib.ListN.{length, take, drop, length-append, length-drop}
 use lib.Seq.{take-append-le, drop-append-le, drop-append-add, take-at, drop-at}
 use Rattle.fixed.specs.Choice.{if_then_else_}
-use Rattle.stages.specs.Lists.{tabulate, joined, cut}
-use Rattle.stages.specs.Run.{run, end, passOut, passEnd}
-use Rattle.stages.proofs.Laws.Lists.{tabulate-length, cut-next}
+use Rattle.filters.specs.Lists.{tabulate, joined, cut}
+use Rattle.filters.specs.Run.{run, end, passOut, passEnd}
+use Rattle.filters.proofs.Laws.Lists.{tabulate-length, cut-next}
 use Rattle.resampler.specs.declared.Record.{Record}
 use Rattle.resampler.specs.Pairs.{Pair, supported}
 use Rattle.resampler.specs.Record.{pairOf}

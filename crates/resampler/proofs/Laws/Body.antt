@@ -6,7 +6,7 @@ use native.Mathlib.Omega.{arith}
 use lib.IntN.{ℤ}
 use lib.ListN.{length, take, drop, set, replicate, length-append, length-drop}
 use lib.Seq.{take-at, take-all}
-use Rattle.stages.proofs.Laws.Lists.{drop-none}
+use Rattle.filters.proofs.Laws.Lists.{drop-none}
 use Rattle.stages.proofs.Laws.Loop.{Filling, fill-start, fill-two, fill-end, fill-count}
 use Rattle.resampler.specs.declared.Record.{Record}
 use Rattle.resampler.specs.Record.{cleaned}

@@ -13,9 +13,9 @@ use lib.IntN.{ℤ}
 use lib.ListN.{length, take, drop, length-append, length-take, length-drop}
 use lib.Seq.{length-take-le, take-nil, take-take, take-at, take-append-add, drop-append-add}
 use Rattle.stages.specs.Outcome.{over, Staged}
-use Rattle.stages.specs.Lists.{padded}
+use Rattle.filters.specs.Lists.{padded}
 use Rattle.stages.proofs.Laws.Outcome.{over-full}
-use Rattle.stages.proofs.Laws.Lists.{part-rest}
+use Rattle.filters.proofs.Laws.Lists.{part-rest}
 use Rattle.stages.proofs.Laws.Loop.{over-behind}
 use Rattle.resampler.specs.declared.Record.{Record}
 use Rattle.resampler.specs.Pairs.{Pair, supported, path, rate-id, delay, delay-matrix-enc, delay-matrix-dec}

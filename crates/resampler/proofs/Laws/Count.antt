@@ -7,9 +7,9 @@ use borrow.Author.Tests.{eqb-true, eqb-false, ltb-true, ltb-false}
 use lib.Dec.{eqb, ltb}
 use lib.IntN.{ℤ}
 use lib.ListN.{length}
-use Rattle.stages.specs.Stage.IirFir.{iirFirBatch}
-use Rattle.stages.specs.Stage.DownFir.{downBatch}
-use Rattle.stages.proofs.Laws.Lengths.{up2-length, iirFirBatch-length, downBatch-length}
+use Rattle.filters.specs.Stage.IirFir.{iirFirBatch}
+use Rattle.filters.specs.Stage.DownFir.{downBatch}
+use Rattle.filters.proofs.Laws.Lengths.{up2-length, iirFirBatch-length, downBatch-length}
 use Rattle.stages.proofs.Laws.Pass as Pass
 use Rattle.resampler.specs.Pairs.{Pair, doubler, path, filter}
 use Rattle.resampler.specs.Record.{Words}

@@ -11,9 +11,9 @@ use lib.IntN.{ℤ, pos}
 use lib.ListN.{length, take, drop, set, replicate, length-replicate, length-take}
 use lib.Seq.{length-take-le}
 use Rattle.fixed.specs.Choice.{if_then_else_}
-use Rattle.stages.specs.Lists.{padded, every}
-use Rattle.stages.specs.Stage.DownFir.{down-1/3, down-1/4, down-1/6}
-use Rattle.stages.proofs.Laws.Lists.{drop-none, padded-length}
+use Rattle.filters.specs.Lists.{padded, every}
+use Rattle.filters.specs.Stage.DownFir.{down-1/3, down-1/4, down-1/6}
+use Rattle.filters.proofs.Laws.Lists.{drop-none, padded-length}
 use Rattle.stages.proofs.Laws.Loop.{Filling, fill-one}
 use Rattle.resampler.specs.declared.Record.{Record}
 use Rattle.resampler.specs.Pairs.{Pair, pair, supported, rate-id, delay, delay-matrix-enc, delay-matrix-dec, path, filter}

@@ -6,16 +6,16 @@ use Prim.Native.Nat.{ℕ, _*_, _<_}
 use lib.IntN.{ℤ}
 use native.Mathlib.Omega.{arith}
 use lib.ListN.{length, take-append-drop}
-use Rattle.stages.proofs.Laws.Lengths.{iirFirNext-length, ar2End-length}
-use Rattle.stages.proofs.Laws.Run.{end-keeps}
+use Rattle.filters.proofs.Laws.Lengths.{iirFirNext-length, ar2End-length}
+use Rattle.filters.proofs.Laws.Run.{end-keeps}
 use Rattle.stages.proofs.Laws.Pass.{pass-whole}
 use Rattle.stages.proofs.Laws.Parts.{up2-nothing, up2-parts}
-use Rattle.stages.specs.declared.rates.Rates.{Rates}
-use Rattle.stages.specs.Lists.{joined, cut}
-use Rattle.stages.specs.Run.{run, end, passOut, passEnd}
-use Rattle.stages.specs.Stage.Up2Hq.{up2, up2End}
-use Rattle.stages.specs.Stage.IirFir.{iirFirBatch, iirFirNext, iirFirPass, iirFirEnd}
-use Rattle.stages.specs.Stage.DownFir.{Filter, downBatch, downNext, downPass, downEnd}
+use Rattle.filters.specs.declared.rates.Rates.{Rates}
+use Rattle.filters.specs.Lists.{joined, cut}
+use Rattle.filters.specs.Run.{run, end, passOut, passEnd}
+use Rattle.filters.specs.Stage.Up2Hq.{up2, up2End}
+use Rattle.filters.specs.Stage.IirFir.{iirFirBatch, iirFirNext, iirFirPass, iirFirEnd}
+use Rattle.filters.specs.Stage.DownFir.{Filter, downBatch, downNext, downPass, downEnd}
 use Rattle.resampler.specs.Pairs.{Pair, Path, copy, doubler, interpolator, down, path}
 use Rattle.resampler.specs.Record.{Words, arrays}
 use Rattle.resampler.specs.Resample.{ratesOf, made, onPath, afterPath, batchOut, batchNext, pass, passWords}

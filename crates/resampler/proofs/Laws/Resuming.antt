@@ -8,11 +8,11 @@ use borrow.Author.Tests.{eq-eqb, ne-eqb, eqb-true}
 use lib.Dec.{eqb}
 use lib.ListN.{length, take, drop, getD}
 use Rattle.fixed.specs.Choice.{if_then_else_}
-use Rattle.stages.specs.Lists.{every}
+use Rattle.filters.specs.Lists.{every}
 use Rattle.stages.specs.declared.answer.Answer.{Answer}
 use Rattle.stages.specs.declared.answer.Answer.the-variants.{Done, Refused}
 use Rattle.stages.specs.Outcome.{outcome}
-use Rattle.stages.proofs.Laws.Lists.{tabulate-length, both-true}
+use Rattle.filters.proofs.Laws.Lists.{tabulate-length, both-true}
 use Rattle.resampler.specs.declared.Record.{Record}
 use Rattle.resampler.specs.Pairs.{supported}
 use Rattle.resampler.specs.Record.{pairOf, dead, blank}

@@ -10,10 +10,10 @@ use lib.Dec.{T, eqb}
 use lib.IntN.{ℤ, pos, negsuc}
 use lib.ListN.{length, take, drop, getD, replicate, length-append, length-drop, take-append-drop}
 use lib.Seq.{length-take-le, take-all, take-at, drop-at, drop-drop, take-add, take-take}
-use Rattle.stages.specs.Lists.{every, padded}
+use Rattle.filters.specs.Lists.{every, padded}
 use Rattle.stages.specs.declared.answer.Answer.the-variants.{Done}
 use Rattle.stages.specs.Outcome.{outcome}
-use Rattle.stages.proofs.Laws.Lists.{both-true}
+use Rattle.filters.proofs.Laws.Lists.{both-true}
 use Rattle.resampler.specs.declared.Record.{Record}
 use Rattle.resampler.specs.Pairs.{path, delay, supported}
 use Rattle.resampler.specs.Record.{pairOf, living, live, liveDelay, dead, keeping, recordOf, cleaned}

@@ -5,10 +5,10 @@ use mathlib.Core.Bool.{Bool, true, false, not, _&&_, _||_}
 use Prim.Native.Nat.{ℕ, _+_, _*_, _≤_}
 use borrow.Author.Tests.{ltb-true, leb-true, eq-eqb, ne-eqb}
 use lib.Dec.{T, ltb, leb}
-use Rattle.stages.specs.declared.rates.Rates.{Rates}
-use Rattle.stages.specs.Reader.{Steady}
-use Rattle.stages.specs.Stage.DownFir.{Filter, down-3/4, down-2/3, down-1/2, down-1/3, down-1/4, down-1/6}
-use Rattle.stages.proofs.Laws.Lists.{both-true}
+use Rattle.filters.specs.declared.rates.Rates.{Rates}
+use Rattle.filters.specs.Reader.{Steady}
+use Rattle.filters.specs.Stage.DownFir.{Filter, down-3/4, down-2/3, down-1/2, down-1/3, down-1/4, down-1/6}
+use Rattle.filters.proofs.Laws.Lists.{both-true}
 use Rattle.resampler.specs.Pairs.{Pair, Path, copy, doubler, interpolator, down, path, filter, supported, up2x, raised, increment}
 use Rattle.resampler.specs.Resample.{ratesOf}
 use Rattle.resampler.proofs.Laws.Pairs.{each, of-each}

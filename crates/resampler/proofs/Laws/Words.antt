@@ -10,14 +10,14 @@ use lib.Dec.{leb}
 use lib.IntN.{ℤ}
 use lib.ListN.{length, length-append, length-drop}
 use lib.Seq.{length-take-le}
-use Rattle.stages.specs.Lists.{last}
-use Rattle.stages.specs.Stage.IirFir.{iirFirNext}
-use Rattle.stages.specs.Stage.DownFir.{downFirCarried}
-use Rattle.stages.specs.Stage.Ar2.{ar2}
-use Rattle.stages.proofs.Laws.Lists.{both-true, padded-length, take-padded}
-use Rattle.stages.proofs.Laws.Lengths.{up2End-length, iirFirNext-length, ar2End-length}
-use Rattle.stages.proofs.Laws.Run.{end-keeps}
-use Rattle.stages.specs.Run.{passEnd}
+use Rattle.filters.specs.Lists.{last}
+use Rattle.filters.specs.Stage.IirFir.{iirFirNext}
+use Rattle.filters.specs.Stage.DownFir.{downFirCarried}
+use Rattle.filters.specs.Stage.Ar2.{ar2}
+use Rattle.filters.proofs.Laws.Lists.{both-true, padded-length, take-padded}
+use Rattle.filters.proofs.Laws.Lengths.{up2End-length, iirFirNext-length, ar2End-length}
+use Rattle.filters.proofs.Laws.Run.{end-keeps}
+use Rattle.filters.specs.Run.{passEnd}
 use Rattle.resampler.specs.declared.Record.{Record}
 use Rattle.resampler.specs.Pairs.{Pair, Path, copy, doubler, interpolator, down, supported, path, filter}
 use Rattle.resampler.specs.Record.{Words, arrays, living, live, pairOf, keeping}

@@ -6,7 +6,7 @@ use native.Mathlib.Omega.{arith}
 use borrow.Author.Needs.{needs}
 use denote.Ref.{now}
 use lib.ListN.{length, take, drop}
-use Rattle.stages.proofs.Laws.Lists.{drop-next, drop-none}
+use Rattle.filters.proofs.Laws.Lists.{drop-next, drop-none}
 use Rattle.stages.proofs.Laws.Loop.{Filling, fill-one}
 use Rattle.bytes.proofs.Laws.Place.{place-start}
 use Rattle.line.proofs.message.put.Statement.{statement}

@@ -6,7 +6,7 @@ use borrow.Author.Needs.{needs}
 use lib.IntN.{pos}
 use lib.ListN.{length, drop}
 use mir.Syntax.{w16}
-use Rattle.stages.specs.Lists.{every}
+use Rattle.filters.specs.Lists.{every}
 use Rattle.resampler.specs.Block.{zero?}
 use Rattle.resampler.proofs.Laws.Scan.{scan-on, scan-fails, scan-end, zero-word, other-word}
 use Rattle.resampler.proofs.entries.samples_zero.Statement.{statement}

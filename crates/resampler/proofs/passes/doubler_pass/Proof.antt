@@ -4,8 +4,8 @@ use mathlib.Core.Path.{refl, _∙_}
 use mathlib.Core.List.{[]}
 use borrow.Author.Needs.{needs}
 use denote.Ref.{now}
-use Rattle.stages.specs.Stage.Up2Hq.{up2End}
-use Rattle.stages.proofs.Laws.Lengths.{up2End-length}
+use Rattle.filters.specs.Stage.Up2Hq.{up2End}
+use Rattle.filters.proofs.Laws.Lengths.{up2End-length}
 use Rattle.resampler.specs.Record.{keeping, pairOf, arrays}
 use Rattle.resampler.specs.Resample.{passed}
 use Rattle.resampler.proofs.Laws.Live.{live-doubler, padded-full}

@@ -2,7 +2,7 @@
 -- Assumes nothing.
 use mathlib.Core.Path.{_≡_, subst}
 use borrow.Author.Needs.{needs}
-use Rattle.stages.specs.Stage.DownFir.{Filter}
+use Rattle.filters.specs.Stage.DownFir.{Filter}
 use Rattle.resampler.specs.Pairs.{filter}
 use Rattle.resampler.specs.Record.{pairOf}
 use Rattle.resampler.specs.Resample.{Lowering}

@@ -6,9 +6,9 @@ use borrow.Author.Needs.{needs}
 use denote.Ref.{now}
 use lib.IntN.{ℤ}
 use lib.ListN.{take}
-use Rattle.stages.specs.Lists.{padded}
+use Rattle.filters.specs.Lists.{padded}
 use Rattle.stages.specs.Outcome.{over}
-use Rattle.stages.specs.Stage.DownFir.{filterOf, downPass, downEnd}
+use Rattle.filters.specs.Stage.DownFir.{filterOf, downPass, downEnd}
 use Rattle.resampler.specs.Record.{keeping, pairOf, arrays}
 use Rattle.resampler.specs.Resample.{ratesOf, passed}
 use Rattle.resampler.proofs.Laws.Live.{live-down, padded-full}

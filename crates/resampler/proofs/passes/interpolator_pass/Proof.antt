@@ -6,7 +6,7 @@ use borrow.Author.Needs.{needs}
 use denote.Ref.{now}
 use lib.IntN.{ℤ}
 use Rattle.stages.specs.Outcome.{over}
-use Rattle.stages.specs.Stage.IirFir.{iirFirPass, iirFirEnd}
+use Rattle.filters.specs.Stage.IirFir.{iirFirPass, iirFirEnd}
 use Rattle.resampler.specs.Record.{keeping, pairOf, arrays}
 use Rattle.resampler.specs.Resample.{ratesOf, passed}
 use Rattle.resampler.proofs.Laws.Live.{live-interpolator, padded-full}

@@ -2,7 +2,7 @@
 use mathlib.Core.Path.{_∙_}
 use borrow.Author.Needs.{needs}
 use denote.Ref.{now}
-use Rattle.stages.proofs.Laws.Lists.{over-zeros}
+use Rattle.filters.proofs.Laws.Lists.{over-zeros}
 use Rattle.resampler.proofs.resample.carrying.Statement.{statement}
 use Rattle.resampler.proofs.resample.carrying.Tie as tie
 

@@ -5,7 +5,7 @@ use Prim.Native.Nat.{_-_}
 use borrow.Author.Needs.{needs}
 use lib.Dec.{eqb}
 use lib.ListN.{take, drop}
-use Rattle.stages.specs.Lists.{every}
+use Rattle.filters.specs.Lists.{every}
 use Rattle.resampler.proofs.Laws.Scan.{pads-start, pads-on, pads-fail, pads-end}
 use Rattle.resampler.proofs.resuming.pads_zero.Statement.{statement}
 use Rattle.resampler.proofs.resuming.pads_zero.Tie as tie

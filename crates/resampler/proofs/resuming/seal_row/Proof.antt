@@ -11,7 +11,7 @@ use denote.Ref.{now}
 use lib.Dec.{eqb}
 use lib.ListN.{drop, length-drop}
 use lib.Seq.{take-all}
-use Rattle.stages.proofs.Laws.Lists.{both-true}
+use Rattle.filters.proofs.Laws.Lists.{both-true}
 use Rattle.bytes.specs.Bytes.{value}
 use Rattle.resampler.specs.Block.{check}
 use Rattle.resampler.proofs.resuming.seal_row.Statement.{statement}

@@ -9,9 +9,9 @@ use borrow.Author.Needs.{needs}
 use denote.Ref.{now}
 use lib.ListN.{length-take, length-drop}
 use mir.Syntax.{w16}
-use Rattle.stages.specs.Stage.DownFir.{filterOf, fir}
+use Rattle.filters.specs.Stage.DownFir.{filterOf, fir}
 use Rattle.fixed.proofs.Laws.Fit.{back}
-use Rattle.stages.proofs.Laws.Lists.{part-rest}
+use Rattle.filters.proofs.Laws.Lists.{part-rest}
 use Rattle.stages.proofs.Laws.Reading.{Reading, read-start, read-place, read-room, read-turn, read-end}
 use Rattle.stages.proofs.down_fir.read.Statement.{statement}
 use Rattle.stages.proofs.down_fir.read.Tie as tie
