@@ -30,6 +30,6 @@ compare:
 bench:
 	@tools/bench/bench
 
-# Looks for the doubler's largest distance from the exact filter, and prints it beside what is proved. Needs rustc.
+# Looks for the doubler's largest distance from the exact filter, and prints the table of docs/DISTANCE.md. Needs rustc.
 distance:
 	@tools/bench/distance
