@@ -1,5 +1,5 @@
 # What people do here. `make test` is the gate; it needs the Rattle kit (`rt`) and nothing else.
-.PHONY: run test answers compare bench
+.PHONY: run test answers compare bench distance
 
 # Replays the stored answers of the Rust original against the proved code, then runs what its entry points refuse, then opens
 # a line and converts a stored tone (20 ms, a triangle of 500 Hz) through the two programs.
@@ -29,3 +29,7 @@ compare:
 # Measures them beside the two, and prints the table of docs/BENCHMARKS.md.
 bench:
 	@tools/bench/bench
+
+# Looks for the doubler's largest distance from the exact filter, and prints the table of docs/DISTANCE.md. Needs rustc.
+distance:
+	@tools/bench/distance

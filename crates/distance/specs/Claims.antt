@@ -2,7 +2,7 @@
 -- The proofs stand in proofs/Claims.antt.
 use mathlib.Core.Path.{_≡_}
 use mathlib.Core.Bool.{true}
-use Prim.Native.Nat.{ℕ, _*_, _≤_}
+use Prim.Native.Nat.{ℕ, _*_, _^_, _≤_}
 use mathlib.Core.List.{List, [], _∷_, _++_, map}
 use lib.IntN.{ℤ, pos, natAbs, _+ℤ_, _-ℤ_}
 use lib.ListN.{length, take, drop, replicate}
@@ -16,10 +16,22 @@ use Rattle.resampler.specs.Pairs.{Pair, supported, path, doubler, delay}
 use Rattle.resampler.specs.Record.{fresh as opened}
 use Rattle.resampler.specs.Resample.{converted, after}
 use Rattle.distance.specs.Exact.{Fraction, throughOut, throughNext, exact}
+use Rattle.distance.specs.Powers.{Same, lifted, passes, powers}
 use Rattle.distance.specs.Distance.{Within, held, Matched, sample?}
 
 abbrev pub fresh : List ℤ
 fresh = replicate 6 (pos 0)
+
+-- ---- the exact filter, read without fractions
+
+-- the outputs that are picked have, entry by entry, the value of what passes with the coefficients cs make: the k-th is a whole
+-- number over 65536^(k+3)
+abbrev pub Reads : (Fraction × Fraction → Fraction) → List ℤ → List ℤ → Type 0
+Reads pick cs xs = Matched Same (map pick (exact xs)) (powers (65536 ^ 3) (passes cs (lifted 1 xs)))
+
+-- the even outputs and the odd, for any whole numbers as samples
+unfoldable pub ExactReads : Type 0
+ExactReads = (xs : List ℤ) → Reads (λ f. f .0) silk-resampler-up2-hq-0 xs × Reads (λ f. f .1) silk-resampler-up2-hq-1 xs
 
 -- ---- before rounding
 

@@ -1,4 +1,6 @@
--- What the doubler is held against, in reading order: fractions and the exact filter, distances, what is claimed.
+-- What the doubler is held against, in reading order: fractions and the exact filter, the same without fractions, distances,
+-- what is claimed.
 pub mod Exact
+pub mod Powers
 pub mod Distance
 pub mod Claims

@@ -109,8 +109,8 @@ module _ (D : ℕ) (w : List ℤ) (f : List Fraction) (h : State D w f) (x : ℤ
       let e = row-out even most 0 D even-passes input (take 3 w) (take 3 f) (h .evens) in
       let o = row-out odd most 0 D odd-passes input (drop 3 w) (drop 3 f) (h .odds) in
       let d : 0 < 65536 * (65536 * (65536 * D)) = omega arith in (
-        within (65536 * (65536 * (65536 * D))) 824 13 (up2Even w x) (exactBoth f x .0) (e .num) (e .reads) (e .under) (e .off) (omega arith) d,
-        within (65536 * (65536 * (65536 * D))) 1096 18 (up2Odd w x) (exactBoth f x .1) (o .num) (o .reads) (o .under) (o .off) (omega arith) d,
+        within (65536 * (65536 * (65536 * D))) 824 _ (up2Even w x) (exactBoth f x .0) (e .num) (e .reads) (e .under) (e .off) (omega arith) d,
+        within (65536 * (65536 * (65536 * D))) 1096 _ (up2Odd w x) (exactBoth f x .1) (o .num) (o .reads) (o .under) (o .off) (omega arith) d,
       )
 
   pub unwrapped : (up2Raw w x ≡ plainRaw w x) × (up2Next w x ≡ plainWords w x)
