@@ -22,6 +22,7 @@ outputs r n = n / r .inKhz * r .outKhz
 pub record Steady (num : ℕ) (r : Rates) : Type 0 where
   pub some : 0 < r .inKhz
   pub few : r .inKhz ≤ 48
+  pub fewOut : r .outKhz ≤ 48
   pub moves : 0 < r .increment
   pub small : r .increment < 16777216
   pub reach : 10 * (r .outKhz * r .increment) < 10 * (num * 65536) + r .increment

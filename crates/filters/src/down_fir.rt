@@ -3,7 +3,7 @@ use crate::taps;
 ghost use mathlib.Core.Path.{_≡_};
 ghost use Prim.Native.Nat.{_+_, _*_, _-_, _/_, _<_, _≤_};
 ghost use lib.ListN.{length};
-ghost use Rattle.filters.specs.Stage.DownFir.{Fitting, filterOf, apart, fir};
+ghost use Rattle.filters.specs.Stage.DownFir.{Fitting, filterOf, apart, filtered};
 
 // Order 18: nine taps of the fraction's row forward, nine of its mirror backward.
 fn apart_of(cs: &[i16], rows: usize, fraction: usize, ys: &[i32]) -> i32
@@ -16,14 +16,14 @@ fn apart_of(cs: &[i16], rows: usize, fraction: usize, ys: &[i32]) -> i32
     taps::nine_backward(front, cs, 2 + 9 * m, ys)
 }
 
-// One output: the samples from a whole position on, at a fraction.
-pub fn output(cs: &[i16], order: usize, rows: usize, fraction: usize, ys: &[i32]) -> i16
+// One output, before it is narrowed: the samples from a whole position on, at a fraction.
+pub fn output(cs: &[i16], order: usize, rows: usize, fraction: usize, ys: &[i32]) -> i32
     requires { ⌜ Fitting order rows (now cs) ⌝ }
     requires { ⌜ (fraction < 65536) × (order ≤ length (now ys)) ⌝ }
-    ensures { λ r. ⌜ r ≡ fir (filterOf order (now (cs .entry))) fraction (now (ys .entry)) ⌝ }
+    ensures { λ r. ⌜ r ≡ filtered (filterOf order (now (cs .entry))) fraction (now (ys .entry)) ⌝ }
 {
     if order <= 18 {
-        return fixed::narrow(apart_of(cs, rows, fraction, ys), 6);
+        return apart_of(cs, rows, fraction, ys);
     }
-    fixed::narrow(taps::half_inward(cs, 2, ys, order), 6)
+    taps::half_inward(cs, 2, ys, order)
 }

@@ -8,7 +8,7 @@ ghost use Rattle.fixed.specs.Fixed.{wrapped};
 ghost use Rattle.filters.specs.Lists.{_!_};
 ghost use Rattle.filters.specs.Rom.{silk-resampler-frac-FIR-12};
 ghost use Rattle.filters.specs.Reader.{sum};
-ghost use Rattle.filters.specs.Stage.IirFir.{interpolated};
+ghost use Rattle.filters.specs.Stage.IirFir.{interpolation};
 
 // A product more.
 fn tap(acc: i32, c: i16, x: i16) -> i32
@@ -25,10 +25,10 @@ fn two(acc: i32, row: [i16; 4], c0: usize, c1: usize, xs: &[i16], at: usize) -> 
     tap(tap(acc, row[c0], xs[at]), row[c1], xs[at + 1])
 }
 
-// One output: the fraction's row forward for samples 0 to 3, its mirror backward for 4 to 7.
-pub fn output(t: &[[i16; 4]; 12], fraction: usize, xs: &[i16]) -> i16
+// One output, before it is narrowed: the fraction's row forward for samples 0 to 3, its mirror backward for 4 to 7.
+pub fn output(t: &[[i16; 4]; 12], fraction: usize, xs: &[i16]) -> i32
     requires { ⌜ (now t ≡ silk-resampler-frac-FIR-12) × (fraction < 65536) × (8 ≤ length (now xs)) ⌝ }
-    ensures { λ r. ⌜ r ≡ interpolated fraction (now (xs .entry)) ⌝ }
+    ensures { λ r. ⌜ r ≡ interpolation fraction (now (xs .entry)) ⌝ }
 {
     let k = fraction * 12 / 65536;
     let row = t[k];
@@ -36,6 +36,5 @@ pub fn output(t: &[[i16; 4]; 12], fraction: usize, xs: &[i16]) -> i16
     let a = two(0, row, 0, 1, xs, 0);
     let b = two(a, row, 2, 3, xs, 2);
     let c = two(b, mirror, 3, 2, xs, 4);
-    let res_Q15 = two(c, mirror, 1, 0, xs, 6);
-    fixed::narrow(res_Q15, 15)
+    two(c, mirror, 1, 0, xs, 6)
 }

@@ -81,17 +81,18 @@ pub fn nine_backward(acc: i32, cs: &[i16], c: usize, ys: &[i32]) -> i32
     group(b, cs, c + 2, c + 1, c, ys, 15)
 }
 
-// Half as many taps as the order, from c on, with the sums of outer samples.
+// Half as many taps as the order, from c on, with the sums of outer samples, six at a turn.
 pub fn half_inward(cs: &[i16], c: usize, ys: &[i32], order: usize) -> i32
-    requires { ⌜ (c + order / 2 ≤ length (now cs)) × (order ≤ length (now ys)) × (order / 2 % 3 ≡ 0) ⌝ }
+    requires { ⌜ (c + order / 2 ≤ length (now cs)) × (order ≤ length (now ys)) × (order / 2 % 6 ≡ 0) ⌝ }
     ensures { λ r. ⌜ r ≡ sum times (pos 0) (take (order / 2) (drop c (now (cs .entry)))) (outerSums order (now (ys .entry))) ⌝ }
 {
     let half = order / 2;
     let mut acc: i32 = 0;
     let mut k = 0;
     while k < half {
-        acc = inward(acc, cs, c + k, ys, order, k);
-        k += 3;
+        let a = inward(acc, cs, c + k, ys, order, k);
+        acc = inward(a, cs, c + k + 3, ys, order, k + 3);
+        k += 6;
     }
     acc
 }

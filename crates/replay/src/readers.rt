@@ -1,11 +1,11 @@
 // Runs of the stages that are told their rates, the interpolator and the down filters, in the manner of runs.rt.
 use crate::file;
 use crate::runs;
-use filters::rates::Rates;
-use filters::rom;
 use stages::DownPass;
 use stages::DownWords;
 use stages::IirFirWords;
+use stages::Rates;
+use stages::rom;
 ghost use mathlib.Core.Path.{_≡_};
 ghost use mathlib.Core.Bool.{true};
 ghost use Prim.Native.Nat.{_*_, _%_, _≤_, _<_};

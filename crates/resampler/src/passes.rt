@@ -2,10 +2,10 @@
 // specs/Resample.antt. Each takes the record and returns it with the path's words moved on and all others zero.
 use crate::Record;
 use crate::pairs;
-use filters::rates::Rates;
-use filters::rom;
 use stages::DownWords;
 use stages::IirFirWords;
+use stages::Rates;
+use stages::rom;
 ghost use mathlib.Core.Path.{_≡_};
 ghost use mathlib.Core.Bool.{true};
 ghost use Prim.Native.Nat.{_*_, _%_, _<_, _≤_};

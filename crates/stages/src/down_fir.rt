@@ -14,9 +14,35 @@ ghost use Rattle.filters.specs.Lists.{padded};
 ghost use Rattle.filters.specs.Reader.{read as reading, outputs, Steady};
 ghost use Rattle.stages.specs.Outcome.{over, Staged};
 ghost use Rattle.filters.specs.Stage.Ar2.{ar2 as filtered, ar2End};
-ghost use Rattle.filters.specs.Stage.DownFir.{Fitting, filterOf, fir, downBatch, downNext, downPass, downEnd};
+ghost use Rattle.filters.specs.Stage.DownFir.{Fitting, filterOf, filtered as firSum, fir, downBatch, downNext, downPass, downEnd};
 
-// The first n outputs that are read from the buffer, an increment apart.
+// The first n outputs that are read from the buffer, an increment apart, before they are narrowed.
+fn sums(
+    increment: usize,
+    n: usize,
+    cs: &[i16],
+    order: usize,
+    rows: usize,
+    buf: &[i32],
+    out: &mut [i32],
+)
+    requires { ⌜ Fitting order rows (now cs) ⌝ }
+    requires { ⌜ (order ≤ length (now buf)) × (n * increment < 65536 * (length (now buf) - order) + increment) ⌝ }
+    requires { ⌜ (increment < 16777216) × (length (now buf) ≤ 516) × (n ≤ length (now out)) ⌝ }
+    ensures { λ r. ⌜ now (out .exit) ≡ over (reading (firSum (filterOf order (now (cs .entry)))) increment n (now (buf .entry))) (now (out .entry)) ⌝ }
+{
+    let mut j = 0;
+    let mut p = 0;
+    while j < n {
+        let at = p / 65536;
+        let y = output(cs, order, rows, p % 65536, &buf[at..]);
+        out[j] = y;
+        p += increment;
+        j += 1;
+    }
+}
+
+// The same, narrowed, which takes eight at a time apart from the loop that makes them.
 fn read(
     increment: usize,
     n: usize,
@@ -28,18 +54,12 @@ fn read(
 )
     requires { ⌜ Fitting order rows (now cs) ⌝ }
     requires { ⌜ (order ≤ length (now buf)) × (n * increment < 65536 * (length (now buf) - order) + increment) ⌝ }
-    requires { ⌜ (increment < 16777216) × (length (now buf) ≤ 516) × (n ≤ length (now out)) ⌝ }
+    requires { ⌜ (increment < 16777216) × (length (now buf) ≤ 516) × (n ≤ 480) × (n ≤ length (now out)) ⌝ }
     ensures { λ r. ⌜ now (out .exit) ≡ over (reading (fir (filterOf order (now (cs .entry)))) increment n (now (buf .entry))) (now (out .entry)) ⌝ }
 {
-    let mut j = 0;
-    let mut p = 0;
-    while j < n {
-        let at = p / 65536;
-        let y = output(cs, order, rows, p % 65536, &buf[at..]);
-        out[j] = y;
-        p += increment;
-        j += 1;
-    }
+    let mut raw = [0i32; 480];
+    sums(increment, n, cs, order, rows, buf, &mut raw);
+    words::narrow(out, 6, &raw[..n]);
 }
 
 // The words of a down filter: those of AR2, and the carried ones, of which the first `order` are live.

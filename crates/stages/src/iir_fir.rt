@@ -15,14 +15,14 @@ ghost use Rattle.filters.specs.Rom.{silk-resampler-frac-FIR-12};
 ghost use Rattle.filters.specs.Reader.{read as reading, outputs, Steady};
 ghost use Rattle.stages.specs.Outcome.{over, Staged};
 ghost use Rattle.filters.specs.Stage.Up2Hq.{up2, up2End};
-ghost use Rattle.filters.specs.Stage.IirFir.{interpolated, iirFirBatch, iirFirNext, iirFirPass, iirFirEnd};
+ghost use Rattle.filters.specs.Stage.IirFir.{interpolation, interpolated, iirFirBatch, iirFirNext, iirFirPass, iirFirEnd};
 
-// The first n outputs that are read from the buffer, an increment apart.
-fn read(t: &[[i16; 4]; 12], increment: usize, n: usize, buf: &[i16], out: &mut [i16])
+// The first n outputs that are read from the buffer, an increment apart, before they are narrowed.
+fn sums(t: &[[i16; 4]; 12], increment: usize, n: usize, buf: &[i16], out: &mut [i32])
     requires { ⌜ now t ≡ silk-resampler-frac-FIR-12 ⌝ }
     requires { ⌜ (8 ≤ length (now buf)) × (n * increment < 65536 * (length (now buf) - 8) + increment) ⌝ }
     requires { ⌜ (increment < 16777216) × (length (now buf) ≤ 328) × (n ≤ length (now out)) ⌝ }
-    ensures { λ r. ⌜ now (out .exit) ≡ over (reading interpolated increment n (now (buf .entry))) (now (out .entry)) ⌝ }
+    ensures { λ r. ⌜ now (out .exit) ≡ over (reading interpolation increment n (now (buf .entry))) (now (out .entry)) ⌝ }
 {
     let mut j = 0;
     let mut p = 0;
@@ -33,6 +33,18 @@ fn read(t: &[[i16; 4]; 12], increment: usize, n: usize, buf: &[i16], out: &mut [
         p += increment;
         j += 1;
     }
+}
+
+// The same, narrowed, which takes eight at a time apart from the loop that makes them.
+fn read(t: &[[i16; 4]; 12], increment: usize, n: usize, buf: &[i16], out: &mut [i16])
+    requires { ⌜ now t ≡ silk-resampler-frac-FIR-12 ⌝ }
+    requires { ⌜ (8 ≤ length (now buf)) × (n * increment < 65536 * (length (now buf) - 8) + increment) ⌝ }
+    requires { ⌜ (increment < 16777216) × (length (now buf) ≤ 328) × (n ≤ 480) × (n ≤ length (now out)) ⌝ }
+    ensures { λ r. ⌜ now (out .exit) ≡ over (reading interpolated increment n (now (buf .entry))) (now (out .entry)) ⌝ }
+{
+    let mut raw = [0i32; 480];
+    sums(t, increment, n, buf, &mut raw);
+    words::narrow(out, 15, &raw[..n]);
 }
 
 // The words of the interpolator: those of the doubler, and the last eight doubled samples.

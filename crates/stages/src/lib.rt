@@ -1,6 +1,6 @@
 // The stages of the SILK resampler, with the two decimators and the two-band split: samples and carried words in, samples
 // and carried words out, no pairs and no records. Each file has the name of the Rust's; `answer` and `words` are ours; what
-// is made of a sample or read for an output is the crate `filters`.
+// is made of a sample or read for an output is the crate `filters`, whose tables and rates are handed on to callers.
 mod ana_filt_bank_1;
 mod answer;
 mod ar2;
@@ -22,6 +22,8 @@ pub use down2::Halved;
 pub use down2::silk_resampler_down2;
 pub use down2_3::Thirds;
 pub use down2_3::silk_resampler_down2_3;
+pub use filters::rates::Rates;
+pub use filters::rom;
 pub use iir_fir::IirFirPass;
 pub use iir_fir::IirFirWords;
 pub use iir_fir::silk_resampler_private_IIR_FIR;

@@ -1,7 +1,7 @@
 -- Laws of the lists of specs/Lists.antt. Assumes nothing.
 use mathlib.Core.Path.{_≡_, refl, sym, ap, _∙_}
 use mathlib.Core.Bool.{Bool, true, false, _&&_}
-use mathlib.Core.List.{List, [], _∷_, _++_}
+use mathlib.Core.List.{List, [], _∷_, _++_, map}
 use Prim.Native.Nat.{ℕ, zero, suc, _+_, _*_, _-_, _/_, _<_, _≤_}
 use native.Mathlib.Nat.{add-zero, mul-suc, not-suc-le-zero}
 use native.Mathlib.Numerals.{add-one}
@@ -90,6 +90,11 @@ module _ {A : Type 0} where
   pub tabulate-none : (n k : ℕ) (f : ℕ → A) → n ≤ k → tabulate k (n - k) f ≡ []
   unfolding tabulate
   tabulate-none n k f h = let e : n - k ≡ 0 = omega arith in rw e refl
+
+pub tabulate-map : {A B : Type 0} (k : A → B) (i n : ℕ) (f : ℕ → A) → map k (tabulate i n f) ≡ tabulate i n (λ j. k (f j))
+unfolding tabulate
+tabulate-map k i zero f = refl
+tabulate-map k i (suc n) f = ap (λ t. k (f i) ∷ t) (tabulate-map k (i + 1) n f)
 
 -- ---- padding
 

@@ -45,11 +45,11 @@ down-1/6 = filterOf 36 Rom.silk-Resampler-1-6-COEFS
 unfoldable pub rows : Filter → List (List ℤ)
 rows f = cut (f .order / 2) (drop 2 (f .coefs))
 
--- what a table must be for an order: two constants, then one to three rows of half the order, in threes
+-- what a table must be for an order: two constants, then one to three rows of half the order, for orders above 18 in sixes
 pub record Fitting (order rows : ℕ) (coefs : List ℤ) : Type 0 where
   pub least : 18 ≤ order
   pub most : order ≤ 36
-  pub threes : order / 2 % 3 ≡ 0
+  pub sixes : 18 < order → order / 2 % 6 ≡ 0
   pub entries : length coefs ≡ 2 + order / 2 * rows
   pub some : 0 < rows
   pub few : rows ≤ 3

@@ -16,15 +16,16 @@ use Rattle.resampler.proofs.Laws.Pairs.{each, of-each}
 abbrev steady? : ℕ → Rates → Bool
 steady? num r =
     ltb 0 (r .inKhz)
-    && (leb (r .inKhz) 48 && (ltb 0 (r .increment) && (ltb (r .increment) 16777216 && ltb (10 * (r .outKhz * r .increment)) (10 * (num * 65536) + r .increment))))
+    && (leb (r .inKhz) 48 && (leb (r .outKhz) 48 && (ltb 0 (r .increment) && (ltb (r .increment) 16777216 && ltb (10 * (r .outKhz * r .increment)) (10 * (num * 65536) + r .increment)))))
 
 steady : (num : ℕ) (r : Rates) → steady? num r ≡ true → Steady num r
 steady num r h =
     let (a, t) = both-true (ltb 0 (r .inKhz)) _ h in
-    let (b, u) = both-true (leb (r .inKhz) 48) _ t in
+    let (b, w) = both-true (leb (r .inKhz) 48) _ t in
+    let (o, u) = both-true (leb (r .outKhz) 48) _ w in
     let (c, v) = both-true (ltb 0 (r .increment)) _ u in
     let (d, e) = both-true (ltb (r .increment) 16777216) _ v in
-    record { some = ltb-true 0 _ a; few = leb-true _ 48 b; moves = ltb-true 0 _ c; small = ltb-true _ 16777216 d; reach = ltb-true _ _ e }
+    record { some = ltb-true 0 _ a; few = leb-true _ 48 b; fewOut = leb-true _ 48 o; moves = ltb-true 0 _ c; small = ltb-true _ 16777216 d; reach = ltb-true _ _ e }
 
 -- which paths read
 abbrev up? : Path → Bool

@@ -1,8 +1,8 @@
 -- A loop that reads a buffer at j increments, as specs/Reader.antt says: its invariant, its turn, its end. Assumes nothing.
 use mathlib.Core.Path.{_≡_, refl, sym, _∙_, ap}
-use mathlib.Core.List.{List}
+use mathlib.Core.List.{List, map}
 use Prim.Native.Nat.{ℕ, _+_, _*_, _-_, _/_, _%_, _<_, _≤_}
-use native.Mathlib.Nat.{add-mul, mul-assoc, mul-comm, mul-sub, mul-le-mul-right, le-of-mul-le-mul-right, div-add-mod'}
+use native.Mathlib.Nat.{add-mul, mul-assoc, mul-comm, mul-sub, mul-le-mul, mul-le-mul-right, le-of-mul-le-mul-right, div-add-mod'}
 use native.Mathlib.Omega.{arith}
 use lib.IntN.{ℤ}
 use lib.ListN.{length, drop, set}
@@ -10,7 +10,7 @@ use Rattle.filters.specs.Lists.{tabulate}
 use Rattle.stages.specs.Outcome.{over}
 use Rattle.filters.specs.declared.rates.Rates.{Rates}
 use Rattle.filters.specs.Reader.{read, outputs, Steady}
-use Rattle.filters.proofs.Laws.Lists.{tabulate-next, tabulate-none}
+use Rattle.filters.proofs.Laws.Lists.{tabulate-next, tabulate-none, tabulate-length, tabulate-map}
 use Rattle.stages.proofs.Laws.Loop.{Filling, fill-start, fill-one, fill-end}
 
 module _ {B : Type 0} (f : ℕ → List ℤ → B) (increment n : ℕ) (buf : List ℤ) (before : List B) where
@@ -51,6 +51,22 @@ module _ {B : Type 0} (f : ℕ → List ℤ → B) (increment n : ℕ) (buf : Li
 
   pub read-end : {j p : ℕ} {o : List B} → n ≤ j → Reading j p o → o ≡ over (read f increment n buf) before
   read-end {j} h r = fill-end _ before (rw (tabulate-none n j sample h) at (r .filling))
+
+-- what is read and then changed one by one is what is read changed
+pub read-map : (k : ℤ → ℤ) (g : ℕ → List ℤ → ℤ) (increment n : ℕ) (buf : List ℤ)
+    → map k (read g increment n buf) ≡ read (λ fraction ys. k (g fraction ys)) increment n buf
+unfolding read
+read-map k g increment n buf = tabulate-map k 0 n (λ j. g (j * increment % 65536) (drop (j * increment / 65536) buf))
+
+pub read-length : {B : Type 0} (f : ℕ → List ℤ → B) (increment n : ℕ) (buf : List ℤ) → length (read f increment n buf) ≡ n
+unfolding read
+read-length f increment n buf = tabulate-length 0 n _
+
+-- ten milliseconds make at most 480 outputs
+pub whole-count : (num : ℕ) (r : Rates) (n : ℕ) → Steady num r → n ≤ 10 * r .inKhz → outputs r n ≤ 480
+whole-count num r n s l =
+    let few = le-of-mul-le-mul-right {m = n / r .inKhz} {n = 10} (omega (arith, div-add-mod' n (r .inKhz))) (s .some) in
+    omega (arith, mul-le-mul few (s .fewOut))
 
 -- the outputs of m milliseconds, at most ten, begin before their samples end
 steady-reach : (num : ℕ) (r : Rates) → Steady num r → (m : ℕ) → m ≤ 10

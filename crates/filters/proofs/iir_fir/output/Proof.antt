@@ -1,6 +1,6 @@
 -- `filters::iir_fir::output` meets its contract: the row and its mirror are the definition's.
 -- Assumes nothing.
-use mathlib.Core.Path.{_≡_, sym, _∙_, ap}
+use mathlib.Core.Path.{_≡_, sym, _∙_}
 use mathlib.Core.List.{List, [], _++_, reverse}
 use Prim.Native.Nat.{ℕ, _*_, _-_, _/_, _<_}
 use native.Mathlib.Omega.{arith}
@@ -8,11 +8,10 @@ use borrow.Author.Needs.{needs}
 use denote.Ref.{now}
 use lib.IntN.{ℤ, pos, _*ℤ_}
 use lib.ListN.{length, getD}
-use mir.Syntax.{w16, w32}
-use Rattle.fixed.specs.Fixed.{narrowed}
+use mir.Syntax.{w32}
 use Rattle.filters.specs.Lists.{_!_}
 use Rattle.filters.specs.Reader.{sum}
-use Rattle.filters.specs.Stage.IirFir.{interpolated, interpolation}
+use Rattle.filters.specs.Stage.IirFir.{interpolation}
 use Rattle.fixed.proofs.Laws.Fit.{back}
 use Rattle.filters.proofs.Laws.Lists.{all-four}
 use Rattle.filters.proofs.Laws.Dot.{eight-taps}
@@ -60,13 +59,10 @@ two-requires-3 c κs = let s = c .before .before .before .before in (width s _ (
 two-requires-4 : tie.Need-two-requires-4
 two-requires-4 c κs = let s = c .before .before .before .before .before in (width s _ (omega arith), omega arith, omega arith, omega (arith, s .pre .2))
 
-narrow-requires : tie.Need-narrow-requires
-narrow-requires c κs = search needs
-
 returns : tie.Need-returns
-unfolding interpolated interpolation
+unfolding interpolation
 returns c =
-    let t4 = c .before in
+    let t4 = c in
     let t3 = t4 .before in
     let t2 = t3 .before in
     let t1 = t2 .before in
@@ -80,11 +76,10 @@ returns c =
     let r2 = back w32 (t2 .two2 .result) (t2 .two2 .ok) ∙ t2 .two2 .ensures in
     let r3 = back w32 (t3 .two3 .result) (t3 .two3 .ok) ∙ t3 .two3 .ensures in
     let r4 = back w32 (t4 .two4 .result) (t4 .two4 .ok) ∙ t4 .two4 .ensures in
-    let all = eight-taps _*ℤ_ (pos 0) xs 0 (r ! 0) (r ! 1) (r ! 2) (r ! 3) (m ! 3) (m ! 2) (m ! 1) (m ! 0) (omega arith) r1 r2 r3 r4
+    eight-taps _*ℤ_ (pos 0) xs 0 (r ! 0) (r ! 1) (r ! 2) (r ! 3) (m ! 3) (m ! 2) (m ! 1) (m ! 0) (omega arith) r1 r2 r3 r4
     ∙ (λ i. sum _*ℤ_ (pos 0) (sym (all-four r (width s k (omega arith))) i ++ reverse (sym (all-four m (width s (11 - k) (omega arith))) i)) xs)
     ∙ (λ i. sum _*ℤ_ (pos 0) (getD (table i) k [] ++ reverse (getD (table i) (11 - k) [])) xs)
-    ∙ (λ i. sum _*ℤ_ (pos 0) (sym (frac-mirrored (s .args .fraction)) i) xs) in
-    back w16 (c .narrow .result) (c .narrow .ok) ∙ c .narrow .ensures ∙ ap (narrowed 15) all
+    ∙ (λ i. sum _*ℤ_ (pos 0) (sym (frac-mirrored (s .args .fraction)) i) xs)
 
 pub output-spec : {M : Type 1} → statement M
 output-spec =
@@ -100,5 +95,4 @@ output-spec =
     two-requires-2
     two-requires-3
     two-requires-4
-    narrow-requires
     returns)

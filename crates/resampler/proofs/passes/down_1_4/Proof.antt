@@ -15,7 +15,7 @@ unfolding silk-Resampler-1-4-COEFS
 down-pass-requires c κs =
     let (l, t) = c .before .before .pre in (
       (l .onDown, l .rates, l .ar2, l .fir),
-      (record { least = omega arith; most = omega arith; threes = refl; entries = refl; some = omega arith; few = omega arith }, l .steady, t .whole, t .room),
+      (record { least = omega arith; most = omega arith; sixes = λ h. refl; entries = refl; some = omega arith; few = omega arith }, l .steady, t .whole, t .room),
     )
 
 same-length : tie.Need-same-length

@@ -18,7 +18,7 @@ use Rattle.filters.specs.Stage.DownFir.{filterOf, fir, downBatch, downNext, dow
 use Rattle.filters.proofs.Laws.Lengths.{ar2-length}
 use Rattle.filters.proofs.Laws.Lists.{take-padded, last-part}
 use Rattle.stages.proofs.Laws.Loop.{over-front}
-use Rattle.stages.proofs.Laws.Reading.{whole-reach}
+use Rattle.stages.proofs.Laws.Reading.{whole-reach, whole-count}
 use Rattle.stages.proofs.down_fir.batch.Statement.{statement}
 use Rattle.stages.proofs.down_fir.batch.Tie as tie
 
@@ -93,7 +93,7 @@ read-requires c κs =
     let s = start f in
     let l = ap length (front f) ∙ both-length s in
     let e : order s + n s - order s ≡ n s = omega arith in
-    (s .pre .0 .0, ((omega arith, rw (l, e) (reach s)), (s .pre .0 .1 .small, omega arith, s .pre .1 .2)))
+    (s .pre .0 .0, ((omega arith, rw (l, e) (reach s)), (s .pre .0 .1 .small, omega arith, whole-count _ (s .args .r) (n s) (s .pre .0 .1) (s .pre .1 .1), s .pre .1 .2)))
 
 mul-kept : tie.Need-mul-kept
 mul-kept c = search needs

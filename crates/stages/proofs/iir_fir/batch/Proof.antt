@@ -17,7 +17,7 @@ use Rattle.filters.specs.Stage.IirFir.{interpolated, iirFirBatch, iirFirNext, i
 use Rattle.filters.proofs.Laws.Lengths.{up2-length}
 use Rattle.filters.proofs.Laws.Lists.{last-part}
 use Rattle.stages.proofs.Laws.Loop.{over-front}
-use Rattle.stages.proofs.Laws.Reading.{whole-reach}
+use Rattle.stages.proofs.Laws.Reading.{whole-reach, whole-count}
 use Rattle.stages.proofs.iir_fir.batch.Statement.{statement}
 use Rattle.stages.proofs.iir_fir.batch.Tie as tie
 
@@ -83,7 +83,7 @@ read-requires c κs =
     let s = start f in
     let l = ap length (front f) ∙ both-length s in
     let e : 8 + n s - 8 ≡ n s = omega arith in
-    (refl, ((omega arith, rw (l, e) (reach s)), (s .pre .0 .0 .small, omega arith, s .pre .1 .2)))
+    (refl, ((omega arith, rw (l, e) (reach s)), (s .pre .0 .0 .small, omega arith, whole-count _ (s .args .r) (length (now (s .args .input))) (s .pre .0 .0) (s .pre .1 .1), s .pre .1 .2)))
 
 mul-kept : tie.Need-mul-kept
 mul-kept c = search needs

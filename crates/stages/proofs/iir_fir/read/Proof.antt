@@ -1,109 +1,65 @@
--- `stages::iir_fir::read` meets its contract: the position at turn j is j increments, and what is written and what is still to be
--- read is the whole.
+-- `stages::iir_fir::read` meets its contract: the sums stand in front of the buffer, and narrowed they are the outputs.
 -- Assumes nothing.
-use mathlib.Core.Path.{_≡_, _∙_, ap}
-use Prim.Native.Nat.{_-_, _/_, _%_}
-use native.Mathlib.Nat.{mod-lt}
+use mathlib.Core.Path.{_≡_, sym, ap, _∙_}
+use mathlib.Core.List.{List, map}
 use native.Mathlib.Omega.{arith}
 use borrow.Author.Needs.{needs}
 use denote.Ref.{now}
-use lib.ListN.{length-take, length-drop}
-use mir.Syntax.{w16}
-use Rattle.filters.specs.Rom.{silk-resampler-frac-FIR-12}
-use Rattle.filters.specs.Stage.IirFir.{interpolated}
-use Rattle.fixed.proofs.Laws.Fit.{back}
-use Rattle.filters.proofs.Laws.Lists.{part-rest}
-use Rattle.stages.proofs.Laws.Reading.{Reading, read-start, read-place, read-room, read-turn, read-end}
+use lib.IntN.{ℤ}
+use lib.ListN.{length, take}
+use Rattle.fixed.specs.Fixed.{narrowed}
+use Rattle.filters.specs.Reader.{read}
+use Rattle.stages.specs.Outcome.{over}
+use Rattle.filters.specs.Stage.IirFir.{interpolation, interpolated}
+use Rattle.stages.proofs.Laws.Loop.{over-front}
+use Rattle.stages.proofs.Laws.Reading.{read-map, read-length}
 use Rattle.stages.proofs.iir_fir.read.Statement.{statement}
 use Rattle.stages.proofs.iir_fir.read.Tie as tie
 
-abbrev Inv-loop : tie.InvT-loop
-Inv-loop t increment n buf out₀ j₀ p₀ out j p = (t ≡ silk-resampler-frac-FIR-12) × Reading interpolated increment n buf out₀ j p out
+module _ (c : tie.After-sums) where
+  abbrev start : tie.Start
+  start = c .before .before
 
-abbrev μ-loop : tie.MeasureT-loop
-μ-loop t increment n buf out₀ j₀ p₀ out j p = n - j
+  abbrev made : List ℤ
+  made = read interpolation (start .args .increment) (start .args .n) (now (start .args .buf))
 
-loop-holds : tie.Need-loop-holds Inv-loop μ-loop
-loop-holds c = (c .pre .0, read-start _ _ _ _ _ (c .pre .1 .1 .2))
+  made-length : length made ≡ start .args .n
+  made-length = read-length interpolation (start .args .increment) (start .args .n) (now (start .args .buf))
 
-mul-output : tie.Need-mul-output Inv-loop μ-loop
-mul-output c =
-    let l = c .before .loop in
-    let r = read-place _ _ _ _ _ (omega arith) (l .inv .1) in
-    search needs
+  -- the buffer's front
+  front : take (start .args .n) (c .sums .last .1 .1 .1 .1 .0) ≡ made
+  front = over-front made _ (start .args .n) made-length (c .sums .ensures)
 
-sub-output : tie.Need-sub-output Inv-loop μ-loop
-sub-output c =
-    let l = c .before .loop in
-    let r = read-place _ _ _ _ _ (omega arith) (l .inv .1) in
-    search needs
+slice-aggregate-sums : tie.Need-slice-aggregate-sums
+slice-aggregate-sums c = search needs
 
-part-output-start : tie.Need-part-output-start Inv-loop μ-loop
-part-output-start c =
-    let l = c .before .loop in
-    let r = read-place _ _ _ _ _ (omega arith) (l .inv .1) in
-    search needs
+sums-requires : tie.Need-sums-requires
+sums-requires c κs = search needs
 
-part-output-end : tie.Need-part-output-end Inv-loop μ-loop
-part-output-end c = search needs
+array-share-prefix-raw : tie.Need-array-share-prefix-raw
+array-share-prefix-raw c = search needs
 
-output-requires : tie.Need-output-requires Inv-loop μ-loop
-output-requires c κs =
-    let l = c .before .before .loop in
-    let r = read-place _ _ _ _ _ (c .before .loop-test .taken) (l .inv .1) in
-    (l .inv .0, mod-lt (l .p) (omega arith), simp (length-take, length-drop) (omega arith))
+slice-aggregate-narrow : tie.Need-slice-aggregate-narrow
+slice-aggregate-narrow c = let f = c .before .before .before in sym (ap length (front f) ∙ made-length f)
 
-mul-y : tie.Need-mul-y Inv-loop μ-loop
-mul-y c = search needs
+narrow-requires : tie.Need-narrow-requires
+narrow-requires c κs =
+    let f = c .before .before .before in
+    let l = ap length (front f) ∙ made-length f in
+    (omega arith, omega arith, omega (arith, start f .pre .1 .1 .3))
 
-slice-set-from-y : tie.Need-slice-set-from-y Inv-loop μ-loop
-slice-set-from-y c = read-room _ _ _ _ _ (c .before .before .loop-test .taken) (c .before .before .before .loop .inv .1)
+same-length : tie.Need-same-length
+same-length c = search needs
 
-add-p : tie.Need-add-p Inv-loop μ-loop
-add-p c =
-    let l = c .before .before .before .loop in
-    let r = read-place _ _ _ _ _ (c .before .before .loop-test .taken) (l .inv .1) in
-    search needs
-
-add-j : tie.Need-add-j Inv-loop μ-loop
-add-j c = search needs
-
-loop-less : tie.Need-loop-less Inv-loop μ-loop
-loop-less c = search needs
-
-loop-again : tie.Need-loop-again Inv-loop μ-loop
-loop-again c =
-    let l = c .before .before .before .loop in
-    let a = c .before .before .before .before .args in (
-      l .inv .0,
-      read-turn _ _ _ _ _ (c .before .before .loop-test .taken) (l .inv .1)
-          (back w16 (c .output .result) (c .output .ok) ∙ c .output .ensures
-          ∙ ap (interpolated (l .p % 65536)) (part-rest (now (a .buf)) (l .p / 65536))),
-    )
-
-same-length : tie.Need-same-length Inv-loop μ-loop
-same-length c = c .before .loop .inv .1 .filling .len
-
-returns : tie.Need-returns Inv-loop μ-loop
-returns c = read-end _ _ _ _ _ (c .loop-test .left) (c .before .loop .inv .1)
+returns : tie.Need-returns
+unfolding interpolated
+returns c =
+    let f = c .before .before .before .before .before in
+    let s = start f .args in
+    let narrow = ap (map (narrowed 15)) (front f) ∙ read-map (narrowed 15) interpolation (s .increment) (s .n) (now (s .buf)) in
+    c .before .narrow .ensures ∙ ap (λ (t : List ℤ). over t (now (s .out))) narrow
 
 pub read-spec : {M : Type 1} → statement M
 read-spec =
     tie.close
-    (tie.spec
-    Inv-loop
-    μ-loop
-    loop-holds
-    mul-output
-    sub-output
-    part-output-start
-    part-output-end
-    output-requires
-    mul-y
-    slice-set-from-y
-    add-p
-    add-j
-    loop-less
-    loop-again
-    same-length
-    returns)
+    (tie.spec slice-aggregate-sums sums-requires array-share-prefix-raw slice-aggregate-narrow narrow-requires same-length returns)
