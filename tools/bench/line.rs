@@ -1,4 +1,4 @@
-//! A line in up to three implementations: ours (the static library of crates/probes), the Rust original's, and libopus's.
+//! A line in up to three implementations: ours (the static library of crates/simmerpatch), the Rust original's, and libopus's.
 //! The state of each is shown as our record, its dead entries zero.
 
 #[path = "../oracle/lines.rs"]
@@ -57,20 +57,20 @@ pub struct Line {
 
 #[rustfmt::skip]
 unsafe extern "C" {
-    fn probe_init(in_hz: i32, out_hz: i32, for_enc: i32) -> Line;
-    fn probe_resampler(record: Record, out: *mut i16, room: usize, input: *const i16, samples: usize) -> Line;
-    fn probe_park(record: Record, block: *mut u8, room: usize) -> Line;
-    fn probe_resume(block: *const u8, bytes: usize) -> Line;
+    fn simmerpatch_open(in_hz: i32, out_hz: i32, for_enc: i32) -> Line;
+    fn simmerpatch_resample(record: Record, out: *mut i16, room: usize, input: *const i16, samples: usize) -> Line;
+    fn simmerpatch_park(record: Record, block: *mut u8, room: usize) -> Line;
+    fn simmerpatch_resume(block: *const u8, bytes: usize) -> Line;
 }
 
 /// Ours take any numbers, records, lengths and bytes, and write within the output that is lent to them.
 pub fn init(in_hz: i32, out_hz: i32, for_enc: i32) -> Line {
-    unsafe { probe_init(in_hz, out_hz, for_enc) }
+    unsafe { simmerpatch_open(in_hz, out_hz, for_enc) }
 }
 
 pub fn resampler(record: Record, out: &mut [i16], input: &[i16]) -> Line {
     unsafe {
-        probe_resampler(
+        simmerpatch_resample(
             record,
             out.as_mut_ptr(),
             out.len(),
@@ -81,11 +81,11 @@ pub fn resampler(record: Record, out: &mut [i16], input: &[i16]) -> Line {
 }
 
 pub fn park(record: Record, block: &mut [u8]) -> Line {
-    unsafe { probe_park(record, block.as_mut_ptr(), block.len()) }
+    unsafe { simmerpatch_park(record, block.as_mut_ptr(), block.len()) }
 }
 
 pub fn resume(block: &[u8]) -> Line {
-    unsafe { probe_resume(block.as_ptr(), block.len()) }
+    unsafe { simmerpatch_resume(block.as_ptr(), block.len()) }
 }
 
 pub trait Other {

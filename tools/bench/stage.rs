@@ -301,9 +301,9 @@ type UpProbe = unsafe extern "C" fn(UpWords, *mut i16, usize, *const i16, usize)
 
 #[rustfmt::skip]
 unsafe extern "C" {
-    fn probe_down2(words: Two, out: *mut i16, room: usize, input: *const i16, samples: usize) -> Halves;
-    fn probe_ana_filt_bank_1(words: Two, low: *mut i16, low_room: usize, high: *mut i16, high_room: usize, input: *const i16, samples: usize) -> Halves;
-    fn probe_down2_3(words: Six, out: *mut i16, room: usize, input: *const i16, samples: usize) -> Thirds;
+    fn simmerpatch_down2(words: Two, out: *mut i16, room: usize, input: *const i16, samples: usize) -> Halves;
+    fn simmerpatch_split(words: Two, low: *mut i16, low_room: usize, high: *mut i16, high_room: usize, input: *const i16, samples: usize) -> Halves;
+    fn simmerpatch_down2_3(words: Six, out: *mut i16, room: usize, input: *const i16, samples: usize) -> Thirds;
     fn probe_up2_HQ(words: Six, out: *mut i16, room: usize, input: *const i16, samples: usize) -> Doubles;
     fn probe_down_16_12(words: DownWords, out: *mut i16, room: usize, input: *const i16, samples: usize) -> DownPass;
     fn probe_down_12_8(words: DownWords, out: *mut i16, room: usize, input: *const i16, samples: usize) -> DownPass;
@@ -381,14 +381,14 @@ impl Implementation for Ours {
         unsafe {
             match self.stage.kind {
                 Kind::Down2 => {
-                    let after = probe_down2(self.two, at, room, from, samples);
+                    let after = simmerpatch_down2(self.two, at, room, from, samples);
                     assert!(after.row == 0 || after.written == 0);
                     self.two = after.words;
                     after.written
                 }
                 Kind::Split => {
                     let (high_at, high_room) = (high.as_mut_ptr(), high.len());
-                    let after = probe_ana_filt_bank_1(
+                    let after = simmerpatch_split(
                         self.two, at, room, high_at, high_room, from, samples,
                     );
                     assert!(after.row == 0 || after.written == 0);
@@ -396,7 +396,7 @@ impl Implementation for Ours {
                     after.written
                 }
                 Kind::Down23 => {
-                    let after = probe_down2_3(self.six, at, room, from, samples);
+                    let after = simmerpatch_down2_3(self.six, at, room, from, samples);
                     assert!(after.row == 0 || after.written == 0);
                     self.six = after.words;
                     after.written

@@ -1,10 +1,8 @@
-// The stages as C functions, to be measured and compared from other languages. A slice is a pointer and a length; words go in
-// and out by value, in structs, for C passes no arrays so. What a stage would not take is refused here: nothing is
-// written, and the words come back as they were given.
-use filters::rates::Rates;
-use filters::rom;
-use resampler::Record;
-use stages::Answer;
+// The stages that are no entry points as C functions, to be measured and compared from other languages. A slice is a pointer
+// and a length; words go in and out by value, in structs, for C passes no arrays so. What a stage would not take is refused
+// here: nothing is written, and the words come back as they were given.
+use stages::Rates;
+use stages::rom;
 ghost use mathlib.Core.Path.{_≡_};
 ghost use mathlib.Core.Bool.{true};
 ghost use Prim.Native.Nat.{_*_, _%_, _<_, _≤_};
@@ -12,13 +10,7 @@ ghost use lib.ListN.{length};
 ghost use Rattle.filters.specs.Reader.{outputs, Steady};
 ghost use Rattle.filters.specs.Stage.DownFir.{Fitting};
 
-// The words of the 1/2 decimator and of the split.
-#[repr(C)]
-pub struct Two {
-    pub w: [i32; 2],
-}
-
-// The words of the 2/3 decimator and of the doubler.
+// The words of the doubler.
 #[repr(C)]
 pub struct Six {
     pub w: [i32; 6],
@@ -38,21 +30,6 @@ pub struct UpWords {
     pub samples: [i16; 8],
 }
 
-// The row that refuses the call, or 0; how many samples were written; the words after them.
-#[repr(C)]
-pub struct Halves {
-    pub row: u8,
-    pub written: usize,
-    pub words: Two,
-}
-
-#[repr(C)]
-pub struct Thirds {
-    pub row: u8,
-    pub written: usize,
-    pub words: Six,
-}
-
 // How many samples were written, and the words after them.
 #[repr(C)]
 pub struct Doubles {
@@ -70,111 +47,6 @@ pub struct DownPass {
 pub struct UpPass {
     pub written: usize,
     pub words: UpWords,
-}
-
-// The row that refuses the call, or 0; how many samples were written; the record after them.
-#[repr(C)]
-pub struct Line {
-    pub row: u8,
-    pub written: usize,
-    pub record: Record,
-}
-
-// An answer in two numbers.
-struct Numbers {
-    row: u8,
-    written: usize,
-}
-
-fn counted(a: Answer) -> Numbers {
-    match a {
-        Answer::Done { written } => Numbers { row: 0, written },
-        Answer::Refused(row) => Numbers { row, written: 0 },
-    }
-}
-
-fn lined(a: Answer, record: Record) -> Line {
-    let n = counted(a);
-    Line {
-        row: n.row,
-        written: n.written,
-        record,
-    }
-}
-
-#[no_mangle]
-pub extern "C" fn probe_init(Fs_Hz_in: i32, Fs_Hz_out: i32, forEnc: i32) -> Line {
-    let o = resampler::silk_resampler_init(Fs_Hz_in, Fs_Hz_out, forEnc);
-    let answer = o.answer;
-    lined(answer, o.record)
-}
-
-#[no_mangle]
-pub extern "C" fn probe_resampler(record: Record, out: &mut [i16], input: &[i16]) -> Line {
-    let r = resampler::silk_resampler(record, out, input);
-    let answer = r.answer;
-    lined(answer, r.record)
-}
-
-#[no_mangle]
-pub extern "C" fn probe_park(record: Record, block: &mut [u8]) -> Line {
-    let p = resampler::park(record, block);
-    let answer = p.answer;
-    lined(answer, p.record)
-}
-
-#[no_mangle]
-pub extern "C" fn probe_resume(block: &[u8]) -> Line {
-    let r = resampler::resume(block);
-    let answer = r.answer;
-    lined(answer, r.record)
-}
-
-#[no_mangle]
-pub extern "C" fn probe_down2(words: Two, out: &mut [i16], input: &[i16]) -> Halves {
-    let given = words.w;
-    let h = stages::silk_resampler_down2(given, out, input);
-    let w = h.words;
-    let answer = h.answer;
-    let n = counted(answer);
-    Halves {
-        row: n.row,
-        written: n.written,
-        words: Two { w },
-    }
-}
-
-#[no_mangle]
-pub extern "C" fn probe_ana_filt_bank_1(
-    words: Two,
-    low: &mut [i16],
-    high: &mut [i16],
-    input: &[i16],
-) -> Halves {
-    let given = words.w;
-    let h = stages::silk_ana_filt_bank_1(given, low, high, input);
-    let w = h.words;
-    let answer = h.answer;
-    let n = counted(answer);
-    Halves {
-        row: n.row,
-        written: n.written,
-        words: Two { w },
-    }
-}
-
-#[no_mangle]
-pub extern "C" fn probe_down2_3(words: Six, out: &mut [i16], input: &[i16]) -> Thirds {
-    let given = words.w;
-    let h = stages::silk_resampler_down2_3(given, out, input);
-    let w = h.words;
-    let answer = h.answer;
-    let n = counted(answer);
-    Thirds {
-        row: n.row,
-        written: n.written,
-        words: Six { w },
-    }
 }
 
 #[no_mangle]

@@ -1,0 +1,2 @@
+-- What C is told of a call.
+pub mod Face
