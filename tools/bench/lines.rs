@@ -2,6 +2,9 @@
 //! record; and parked blocks and refusals with what the requirements say of them.
 //! Run: lines [SAMPLES], how many output samples to compare at the least.
 
+#[allow(dead_code)]
+#[path = "../suite/described.rs"]
+mod described;
 #[cfg(libopus)]
 #[allow(dead_code)]
 mod libopus;
@@ -10,7 +13,8 @@ mod signals;
 #[path = "../oracle/values.rs"]
 mod values;
 
-use line::{check, init, others, park, resampler, resume, seal, thirty};
+use described::described;
+use line::{init, others, park, resampler, resume, seal, thirty};
 use line::{Line, Other, Pair, Record, OTHERS};
 use signals::{any_samples, SIGNALS};
 use values::Dice;
@@ -387,55 +391,12 @@ fn damaged_blocks(pair: Pair, tally: &mut Tally, dice: &mut Dice) {
 
 /// What resuming has to leave, from the bytes alone.
 fn resumed(bytes: &[u8], tally: &mut Tally) {
-    let expected = match <[u8; 512]>::try_from(bytes) {
-        Err(_) => (8, Record::BLANK),
-        Ok(block) => described(&block),
-    };
-    let (row, record) = expected;
+    let expected = described(bytes);
     let line = resume(bytes);
-    let expected = Line {
-        row,
-        written: 0,
-        record,
-    };
     tally.hold(line == expected, || {
-        format!("a damaged block: {}, not {row}", line.row)
+        format!("a damaged block: {}, not {}", line.row, expected.row)
     });
     tally.damaged += 1;
-}
-
-fn described(block: &[u8; 512]) -> (u8, Record) {
-    let word = |at: usize| i32::from_le_bytes(block[at..at + 4].try_into().unwrap());
-    let sample = |at: usize| i16::from_le_bytes(block[at..at + 2].try_into().unwrap());
-    let record = Record {
-        direction: block[0],
-        in_khz: block[1],
-        out_khz: block[2],
-        doubler: std::array::from_fn(|k| word(4 + 4 * k)),
-        samples: std::array::from_fn(|k| sample(28 + 2 * k)),
-        ar2: std::array::from_fn(|k| word(44 + 4 * k)),
-        fir: std::array::from_fn(|k| word(52 + 4 * k)),
-        delay: std::array::from_fn(|k| sample(196 + 2 * k)),
-    };
-    let pair = Pair {
-        direction: block[0],
-        in_khz: block[1] as usize,
-        out_khz: block[2] as usize,
-    };
-    let row = if word(508) as u32 != check(block) {
-        9
-    } else if block[3] != 1 {
-        10
-    } else if !thirty().contains(&pair) {
-        11
-    } else if record != record.cleaned(&pair.live())
-        || block[292..508].iter().any(|byte| *byte != 0)
-    {
-        12
-    } else {
-        0
-    };
-    (row, if row == 0 { record } else { Record::BLANK })
 }
 
 /// Mostly short calls; now and then a long one, and now and then through a block.
