@@ -1,7 +1,9 @@
-//! Runs the stages and the thirty conversions to be measured, on calls of 20 ms of any samples.
-//! Run: measure list: the name of each and how many samples a call puts out.
-//!      measure times: the name of each and, for each implementation, nanoseconds for an output sample.
+//! Runs what is to be measured, on any samples: the stages on calls of 20 ms, and the thirty conversions on calls of 10, 20
+//! and 1,000 ms.
+//! Run: measure list: for each its name, the milliseconds of a call and how many samples a call puts out.
+//!      measure times: for each its name and, for each implementation, nanoseconds for an output sample.
 //!      measure run NUMBER IMPLEMENTATION CALLS, the first two by number: just the calls.
+//!      measure threads: sixteen lines on one thread and on sixteen.
 
 #[cfg(libopus)]
 #[allow(dead_code)]
@@ -21,20 +23,27 @@ use std::time::Instant;
 use values::Dice;
 
 const ROUNDS: usize = 31;
-const CALLS: usize = 300;
+
+/// Milliseconds of input that are timed in a round.
+const TIMED: usize = 6000;
+
+/// The milliseconds of a call.
+const STAGE_MS: usize = 20;
+const LINE_MS: [usize; 3] = [10, 20, 1000];
 
 /// A call of one implementation: its input, its output, and in the split the output of the high band.
 type Call = Box<dyn FnMut(&[i16], &mut [i16], &mut [i16])>;
 
 enum Measured {
     Stage(Stage),
-    Line(Pair),
+    Line(Pair, usize),
 }
 
 use Measured::{Line, Stage as Of};
 
 fn all() -> Vec<Measured> {
-    let lines = thirty().into_iter().map(Line);
+    let lines = thirty().into_iter();
+    let lines = lines.flat_map(|pair| LINE_MS.map(|ms| Line(pair, ms)));
     stages().into_iter().map(Of).chain(lines).collect()
 }
 
@@ -42,22 +51,29 @@ impl Measured {
     fn name(&self) -> String {
         match self {
             Of(stage) => stage.name.to_string(),
-            Line(pair) => pair.named(),
+            Line(pair, _) => pair.named(),
         }
     }
 
-    /// The input of 20 ms.
+    fn ms(&self) -> usize {
+        match self {
+            Of(_) => STAGE_MS,
+            Line(_, ms) => *ms,
+        }
+    }
+
+    /// The input of a call.
     fn frame(&self) -> usize {
         match self {
             Of(stage) => stage.frame,
-            Line(pair) => 20 * pair.in_khz,
+            Line(pair, ms) => ms * pair.in_khz,
         }
     }
 
     fn places(&self) -> usize {
         match self {
             Of(stage) => stage.outputs(stage.frame),
-            Line(pair) => 20 * pair.out_khz,
+            Line(pair, ms) => ms * pair.out_khz,
         }
     }
 
@@ -65,7 +81,7 @@ impl Measured {
     fn made(&self) -> usize {
         match self {
             Of(stage) => stage.bands() * self.places(),
-            Line(_) => self.places(),
+            Line(..) => self.places(),
         }
     }
 
@@ -81,7 +97,7 @@ impl Measured {
                 };
                 all.map(call).collect()
             }
-            Line(pair) => {
+            Line(pair, _) => {
                 let mut record = Record::fresh(*pair);
                 let ours: Call = Box::new(move |input, out, _| {
                     record = resampler(record, out, input).record;
@@ -109,15 +125,16 @@ impl Measured {
     /// The middle one of the times of several rounds; in each round the implementations take turns.
     fn times(&self) -> Vec<f64> {
         let mut calls = self.calls();
+        let each = TIMED / self.ms();
         let mut rounds = vec![vec![]; calls.len()];
         for _ in 0..ROUNDS {
             for (call, times) in calls.iter_mut().zip(&mut rounds) {
                 let start = Instant::now();
-                self.run(call, CALLS);
+                self.run(call, each);
                 times.push(start.elapsed().as_nanos() as f64);
             }
         }
-        let samples = (CALLS * self.made()) as f64;
+        let samples = (each * self.made()) as f64;
         let middle = |mut times: Vec<f64>| {
             times.sort_by(f64::total_cmp);
             times[ROUNDS / 2] / samples
@@ -126,13 +143,49 @@ impl Measured {
     }
 }
 
+/// Sixteen lines, of the encoder's fifteen pairs and the first again, each with its own record, on calls of 20 ms: seconds for
+/// a minute of sound on each, dealt out to so many threads.
+fn sixteen(threads: usize) -> f64 {
+    let pairs: Vec<Pair> = thirty().into_iter().cycle().take(16).collect();
+    let start = Instant::now();
+    std::thread::scope(|scope| {
+        for thread in 0..threads {
+            let own: Vec<Pair> = pairs.iter().skip(thread).step_by(threads).copied().collect();
+            scope.spawn(move || {
+                for pair in own {
+                    let line = Line(pair, 20);
+                    line.run(&mut line.calls()[0], 3000);
+                }
+            });
+        }
+    });
+    start.elapsed().as_secs_f64()
+}
+
+/// The middle one of five runs on each number of threads, by turns.
+fn threads() {
+    let mut times = [vec![], vec![]];
+    for _ in 0..5 {
+        for (times, threads) in times.iter_mut().zip([1, 16]) {
+            times.push(sixteen(threads));
+        }
+    }
+    let [one, many] = times.map(|mut times| {
+        times.sort_by(f64::total_cmp);
+        times[2]
+    });
+    let cores = std::thread::available_parallelism().map_or(1, usize::from);
+    println!("sixteen lines, a minute of sound each, on {cores} cores: {one:.2} s on one thread, {many:.2} s on sixteen");
+}
+
 fn main() {
     let words: Vec<String> = std::env::args().skip(1).collect();
     let words: Vec<&str> = words.iter().map(String::as_str).collect();
     match words[..] {
         ["list"] => {
             for measured in all() {
-                println!("{}\t{}", measured.name(), measured.made());
+                let (ms, made) = (measured.ms(), measured.made());
+                println!("{}\t{ms}\t{made}", measured.name());
             }
         }
         ["times"] => {
@@ -142,6 +195,7 @@ fn main() {
                 println!("{}\t{}", measured.name(), times.join("\t"));
             }
         }
+        ["threads"] => threads(),
         ["run", number, implementation, calls] => {
             let [number, implementation, calls] = [number, implementation, calls]
                 .map(|word| word.parse::<usize>().expect("a number"));
@@ -149,7 +203,7 @@ fn main() {
             measured.run(&mut measured.calls()[implementation], calls);
         }
         _ => {
-            eprintln!("usage: measure list | times | run NUMBER IMPLEMENTATION CALLS");
+            eprintln!("usage: measure list | times | threads | run NUMBER IMPLEMENTATION CALLS");
             std::process::exit(2);
         }
     }
