@@ -6,6 +6,7 @@ pub mod Scan
 pub mod Entries
 pub mod Live
 pub mod Passes
+pub mod Twice
 pub mod Paths
 pub mod Words
 pub mod Count

@@ -1,6 +1,6 @@
 -- A call of the resampler: its signal, its two passes, and what a batch makes. Assumes nothing.
 use mathlib.Core.Path.{_≡_}
-use Prim.Native.Nat.{ℕ, _*_, _/_, _%_, _<_, _≤_}
+use Prim.Native.Nat.{ℕ, _+_, _*_, _/_, _%_, _<_, _≤_}
 use mathlib.Core.Bool.{true}
 use mathlib.Core.List.{List, [], _++_}
 use lib.IntN.{ℤ}
@@ -10,11 +10,14 @@ use Rattle.filters.specs.Run.{passOut, passEnd}
 use Rattle.filters.specs.Stage.Ar2.{ar2End}
 use Rattle.filters.specs.Stage.Up2Hq.{up2, up2End}
 use Rattle.filters.specs.Stage.IirFir.{iirFir, iirFirCarried}
-use Rattle.filters.specs.Reader.{Steady, outputs}
-use Rattle.filters.specs.Stage.DownFir.{Filter, downFir, downFirCarried}
+use Rattle.filters.specs.Lists.{padded}
+use Rattle.filters.specs.Reader.{outputs}
+use Rattle.filters.specs.Stage.DownFir.{Filter, downFir, downFirCarried, downPass, downEnd}
+use Rattle.stages.specs.declared.down_fir.DownWords.{DownWords}
+use Rattle.stages.specs.Outcome.{Staged}
 use Rattle.resampler.specs.declared.Record.{Record}
-use Rattle.resampler.specs.Pairs.{Pair, Path, copy, doubler, interpolator, down, supported, path, increment}
-use Rattle.resampler.specs.Record.{Words, arrays, pairOf, live, liveDelay, keeping, recordOf}
+use Rattle.resampler.specs.Pairs.{Pair, pair, Path, copy, doubler, interpolator, down, supported, filter, path, increment}
+use Rattle.resampler.specs.Record.{Words, arrays, pairOf, live, liveDelay, recordOf}
 
 -- n samples of input are n / in-kHz milliseconds, and each makes out-kHz samples
 unfoldable pub made : Pair → ℕ → ℕ
@@ -57,23 +60,41 @@ pass p = passOut (batchOut p) (batchNext p) (batchSize p)
 unfoldable pub passWords : Pair → Words → List ℤ → Words
 passWords p = passEnd (batchNext p) (batchSize p)
 
--- the record after it, with the delay samples as they were
-unfoldable pub passed : Record → List ℤ → Record
-passed s xs = keeping (pairOf s) (passWords (pairOf s) (live s) xs) (s .delay)
+-- ---- two passes, one behind the other
 
--- what a pass asks of its rates, input and output: whole milliseconds, and room for what they make
-pub record Taking (r : Rates) (input out : List ℤ) : Type 0 where
-  pub whole : length input % r .inKhz ≡ 0
-  pub room : outputs r (length input) ≤ length out
+-- the second, over ys, starts from the words that the first leaves
+abbrev pub twice : {S : Type 0} → (S → List ℤ → List ℤ) → (S → List ℤ → S) → S → List ℤ → List ℤ → List ℤ
+twice out next s xs ys = out s xs ++ out (next s xs) ys
 
--- and of a record on the path of a down filter
-pub record Lowering (g : Filter) (s : Record) (r : Rates) : Type 0 where
-  pub onDown : path (pairOf s) ≡ down g
-  pub rates : r ≡ ratesOf (pairOf s)
-  pub steady : Steady (r .inKhz) r
-  pub few : r .outKhz ≤ 48
-  pub ar2 : length (s .ar2) ≡ 2
-  pub fir : length (s .fir) ≡ 36
+abbrev pub twiceEnd : {S : Type 0} → (S → List ℤ → S) → S → List ℤ → List ℤ → S
+twiceEnd next s xs ys = next (next s xs) ys
+
+-- what both passes of a call put out, from the record's live words
+unfoldable pub bothOut : Record → List ℤ → List ℤ → List ℤ
+bothOut s = twice (pass (pairOf s)) (passWords (pairOf s)) (live s)
+
+-- the record after both, with the samples zs carried on
+unfoldable pub bothAfter : Record → List ℤ → List ℤ → List ℤ → Record
+bothAfter s xs ys zs = recordOf (pairOf s) (twiceEnd (passWords (pairOf s)) (live s) xs ys) zs
+
+-- what two passes ask: a millisecond, whole ones behind it, and room for what both make
+pub record Taking (r : Rates) (first rest out : List ℤ) : Type 0 where
+  pub one : length first ≡ r .inKhz
+  pub whole : length rest % r .inKhz ≡ 0
+  pub room : r .outKhz + outputs r (length rest) ≤ length out
+
+-- the down filter of a stage's rates: it is the same in both directions
+abbrev pub filterAt : Rates → Filter
+filterAt r = filter (pair 0 (r .inKhz) (r .outKhz))
+
+-- its live words
+abbrev pub downLive : Filter → DownWords → List ℤ × List ℤ
+downLive g w = (w .ar2, take (g .order) (w .fir))
+
+-- what it leaves of two passes: their samples, and its words, those that are not live zero
+pub record Lowered (g : Filter) (r : Rates) (w : DownWords) (xs ys before after : List ℤ) (q : DownWords) : Type 0 where
+  pub staged : Staged (twice (downPass g r) (downEnd g r) (downLive g w) xs ys) (twiceEnd (downEnd g r) (downLive g w) xs ys) before after (downLive g q)
+  pub zeros : q .fir ≡ padded 36 (take (g .order) (q .fir))
 
 -- ---- a call
 

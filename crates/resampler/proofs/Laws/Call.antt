@@ -1,10 +1,10 @@
--- A call's signal in parts: the first millisecond, the rest of what is filtered, and what is carried on; and that the two
--- passes over them, one behind the other, are the call. Assumes nothing.
+-- A call's signal in parts: the first millisecond, the rest of what is filtered, and what is carried on; and that both passes
+-- over them are the call. Assumes nothing.
 use mathlib.Core.Path.{_≡_, refl, sym, ap, _∙_}
 use mathlib.Core.Bool.{true}
 use mathlib.Core.List.{List, [], _∷_, _++_, append-assoc}
 use Prim.Native.Nat.{ℕ, zero, suc, _+_, _*_, _-_, _/_, _%_, _<_, _≤_}
-use native.Mathlib.Nat.{div-add-mod', mul-div-cancel, mul-mod-left, add-mul, one-mul, mod-self}
+use native.Mathlib.Nat.{div-add-mod', mul-div-cancel, mul-mod-left, add-mul, mod-self}
 use native.Mathlib.Omega.{arith}
 use borrow.Author.Tests.{leb-true}
 use borrow.Rule.Slice.PartMut.{midOf, postOf, putMid, mid-len, same-len-mid}
@@ -13,18 +13,17 @@ use lib.IntN.{ℤ}
 use lib.ListN.{length, take, drop, length-append, length-take, length-drop}
 use lib.Seq.{length-take-le, take-nil, take-take, take-at, take-append-add, drop-append-add}
 use Rattle.stages.specs.Outcome.{over, Staged}
-use Rattle.filters.specs.Lists.{padded}
 use Rattle.stages.proofs.Laws.Outcome.{over-full}
 use Rattle.filters.proofs.Laws.Lists.{part-rest}
-use Rattle.stages.proofs.Laws.Loop.{over-behind}
 use Rattle.resampler.specs.declared.Record.{Record}
 use Rattle.resampler.specs.Pairs.{Pair, supported, path, rate-id, delay, delay-matrix-enc, delay-matrix-dec}
-use Rattle.resampler.specs.Record.{pairOf, live, liveDelay, keeping, recordOf}
-use Rattle.resampler.specs.Resample.{made, signal, pass, passWords, passed, first, rest, between, converted, after, Calling}
+use Rattle.resampler.specs.Record.{pairOf, live, liveDelay}
+use Rattle.resampler.specs.Resample.{made, ratesOf, signal, pass, bothOut, bothAfter, Taking, first, rest, between, converted, after, Calling}
 use Rattle.resampler.proofs.Laws.Pairs.{of-each, small}
-use Rattle.resampler.proofs.Laws.Entries.{Whole, delay-few}
-use Rattle.resampler.proofs.Laws.Words.{Sized, sized-unused, live-sized, pass-sized, keeping-live, keeping-whole}
+use Rattle.resampler.proofs.Laws.Entries.{delay-few}
+use Rattle.resampler.proofs.Laws.Words.{Sized, sized-unused, live-sized, pass-sized}
 use Rattle.resampler.proofs.Laws.Count.{pass-count}
+use Rattle.resampler.proofs.Laws.Twice.{one-makes}
 
 -- ---- lists behind one another
 
@@ -87,7 +86,7 @@ module _ (s : Record) (xs : List ℤ) (room : ℕ) (c : Calling s (length xs) ro
   -- a millisecond makes out-kHz samples, and the rest what it makes
   first-made : made p k ≡ s .outKhz
   unfolding made
-  first-made = let e : 1 * k / k ≡ 1 = mul-div-cancel 1 (omega (arith, some)) in rw (rw (one-mul k) at e) (omega arith)
+  first-made = one-makes (ratesOf p) (omega (arith, some))
 
   both-made : made p n ≡ s .outKhz + made p (n - k)
   unfolding made
@@ -101,34 +100,31 @@ module _ (s : Record) (xs : List ℤ) (room : ℕ) (c : Calling s (length xs) ro
       let f : made p (n - k) ≡ j * s .outKhz = ap (λ (m : ℕ). m / k * s .outKhz) r ∙ ap (λ (m : ℕ). m * s .outKhz) a in
       omega (arith, f, g, add-mul 1 j (s .outKhz))
 
-  pub first-room : s .outKhz ≤ room
-  first-room = omega (arith, both-made, c .fits)
-
   carried : length (liveDelay s) ≡ d
   unfolding liveDelay
   carried = length-take-le d (s .delay) (omega (arith, c .delay, delay-few p (c .pair)))
 
   -- the parts of the signal, as parts of the delay samples and of the input
-  pub first-is : first s xs ≡ take d (s .delay) ++ take (k - d) xs
+  first-is : first s xs ≡ take d (s .delay) ++ take (k - d) xs
   unfolding first signal liveDelay
   first-is = take-take k n (liveDelay s ++ xs) first-fits ∙ take-behind (liveDelay s) xs d k carried within
 
-  pub rest-is : rest s xs ≡ take (n - d - (k - d)) (drop (k - d) xs)
+  rest-is : rest s xs ≡ take (n - d - (k - d)) (drop (k - d) xs)
   unfolding rest signal
   rest-is =
       rw (take-behind (liveDelay s) xs d n carried (omega (arith, within, first-fits)), drop-behind (liveDelay s) (take (n - d) xs) d k carried within)
       (drop-of-take (k - d) (n - d) xs)
 
-  pub carried-is : drop n (signal s xs) ≡ take (n - (n - d)) (drop (n - d) xs)
+  carried-is : drop n (signal s xs) ≡ take (n - (n - d)) (drop (n - d) xs)
   unfolding signal
   carried-is = drop-behind (liveDelay s) xs d n carried (omega (arith, within, first-fits)) ∙ sym (part-rest xs (n - d))
 
-  pub first-length : length (first s xs) ≡ k
+  first-length : length (first s xs) ≡ k
   unfolding first signal
   first-length =
       length-take-le k _ (omega (arith, first-fits, length-take n (liveDelay s ++ xs), length-append (liveDelay s) xs))
 
-  pub rest-length : length (rest s xs) ≡ n - k
+  rest-length : length (rest s xs) ≡ n - k
   unfolding rest signal
   rest-length = length-drop k (take n (liveDelay s ++ xs)) ∙ omega (arith, length-take n (liveDelay s ++ xs), length-append (liveDelay s) xs)
 
@@ -149,23 +145,12 @@ module _ (s : Record) (xs : List ℤ) (room : ℕ) (c : Calling s (length xs) ro
         same-len-mid m (k - m) b zs (ap length z ∙ t ∙ sym l) ∙ c .delay,
       )
 
-  -- and a pass over it has room
-  pub first-asks : {ys : List ℤ} → ys ≡ first s xs → (length ys % k ≡ 0) × (made p (length ys) ≤ room)
-  first-asks e =
-      let l = ap length e ∙ first-length in
-      rw l (mod-self k, omega (arith, first-made, both-made, c .fits))
-
   sized : Sized (path p) (live s)
   sized = live-sized s (c .pair) (c .doubler, c .samples, c .ar2, c .fir, c .delay)
 
   between-sized : Sized (path p) (between s xs)
   unfolding between
   between-sized = pass-sized p (live s) (first s xs) sized
-
-  -- the record between the two passes
-  between-live : live (passed s (first s xs)) ≡ between s xs
-  unfolding passed between
-  between-live = keeping-live p (between s xs) (s .delay) between-sized
 
   first-count : length (pass p (live s) (first s xs)) ≡ s .outKhz
   first-count =
@@ -181,62 +166,30 @@ module _ (s : Record) (xs : List ℤ) (room : ℕ) (c : Calling s (length xs) ro
   unfolding converted
   call-count = length-append (pass p (live s) (first s xs)) (pass p (between s xs) (rest s xs)) ∙ omega (arith, first-count, rest-count, both-made)
 
-  -- the rest, as a part of the input
+  -- the other two as parts of the input
   module _ {m : ℕ} (h : m ≡ d) where
-    abbrev part : List ℤ
-    part = take (n - m - (k - m)) (drop (k - m) xs)
+    pub rest-part : take (n - m - (k - m)) (drop (k - m) xs) ≡ rest s xs
+    rest-part = (λ i. take (n - h i - (k - h i)) (drop (k - h i) xs)) ∙ sym rest-is
 
-    part-is : part ≡ rest s xs
-    part-is = (λ i. take (n - h i - (k - h i)) (drop (k - h i) xs)) ∙ sym rest-is
+    pub carried-part : take (n - (n - m)) (drop (n - m) xs) ≡ drop n (signal s xs)
+    carried-part = (λ i. take (n - (n - h i)) (drop (n - h i) xs)) ∙ sym carried-is
 
-    -- what the second pass asks
-    pub second-asks : {b : Record} (o : List ℤ) → b ≡ passed s (first s xs) → length o ≡ room
-        → (supported (pairOf b) ≡ true)
-        × (Whole b × ((length part % b .inKhz ≡ 0) × (made (pairOf b) (length part) ≤ length (take (length o - s .outKhz) (drop (s .outKhz) o)))))
-    unfolding passed keeping between
-    second-asks {b} o e l =
-        let r = ap length part-is ∙ rest-length in
-        let whole = keeping-whole p (between s xs) (s .delay) (c .pair) between-sized (c .delay) in
-        let left = length-take (length o - s .outKhz) (drop (s .outKhz) o) in
-        let fits : made p (n - k) ≤ length (take (length o - s .outKhz) (drop (s .outKhz) o)) = omega (arith, left, length-drop (s .outKhz) o, l, both-made, c .fits) in
-        rw (e, r) (c .pair, (whole, (rest-whole, fits)))
-
-    -- the two passes, one behind the other, and what is carried on
-    pub call-is : {b t q : Record} {before o zs : List ℤ} → length before ≡ room
-        → Staged (pass p (live s) (first s xs)) (passed s (first s xs)) before o b
-        → Staged (pass (pairOf b) (live b) part) (passed b part) (midOf (s .outKhz) (length o - s .outKhz) o) zs t
-        → q ≡ record {
-          direction = t .direction;
-          inKhz = t .inKhz;
-          outKhz = t .outKhz;
-          doubler = t .doubler;
-          samples = t .samples;
-          ar2 = t .ar2;
-          fir = t .fir;
-          delay = padded 48 (take (n - (n - m)) (drop (n - m) xs));
-        }
-        → Staged (converted s xs) (after s xs) before (putMid (s .outKhz) (length o - s .outKhz) o zs) q
-    unfolding passed keeping recordOf converted after
-    call-is {b} {t} {q} {before} {o} {zs} l st nd e =
-        let made1 = pass p (live s) (first s xs) in
-        let made2 = pass p (between s xs) (rest s xs) in
-        let pb = ap pairOf (st .carried) in
-        let lb = ap live (st .carried) ∙ between-live in
-        let k1 = sym first-count in
-        let behind = nd .filled ∙ (λ i. over (pass (pb i) (lb i) (part-is i)) (midOf (k1 i) (length o - k1 i) o)) in
-        let kept = nd .carried ∙ (λ i. keeping (pb i) (passWords (pb i) (lb i) (part-is i)) (b .delay)) in
-        let tail = (λ i. take (n - (n - h i)) (drop (n - h i) xs)) ∙ sym carried-is in
+  -- both passes have what they ask, and are the call
+  module _ {ys zs : List ℤ} (f : ys ≡ first s xs) (g : zs ≡ rest s xs) where
+    pub call-takes : {out : List ℤ} → length out ≡ room → Taking (ratesOf p) ys zs out
+    unfolding made
+    call-takes l =
+        let r = ap length g ∙ rest-length in
         record {
-          filled = (λ i. putMid (k1 i) (length o - k1 i) o zs)
-              ∙ over-behind made1 made2 before (omega (arith, l, first-count, rest-count, both-made, c .fits)) (st .filled) behind;
-          carried = e ∙ (λ i. record {
-            direction = kept i .direction;
-            inKhz = kept i .inKhz;
-            outKhz = kept i .outKhz;
-            doubler = kept i .doubler;
-            samples = kept i .samples;
-            ar2 = kept i .ar2;
-            fir = kept i .fir;
-            delay = padded 48 (tail i);
-          });
+          one = ap length f ∙ first-length;
+          whole = rw r rest-whole;
+          room = rw r (omega (arith, l, both-made, c .fits));
         }
+
+    pub call-is : {ts before o : List ℤ} {q : Record} → ts ≡ drop n (signal s xs)
+        → Staged (bothOut s ys zs) (bothAfter s ys zs ts) before o q → Staged (converted s xs) (after s xs) before o q
+    unfolding bothOut bothAfter between converted after
+    call-is {ts} {before} e st = record {
+      filled = st .filled ∙ (λ i. over (bothOut s (f i) (g i)) before);
+      carried = st .carried ∙ (λ i. bothAfter s (f i) (g i) (e i));
+    }

@@ -82,37 +82,38 @@ module _ (p : Pair) (w : Words) (xs : List ℤ) where
       let (s, a, f) = still e k in
       (o ∙ q, λ i. arrays ((n ∙ m) i) (s i) (a i) (f i))
 
-  pub interpolated : path p ≡ interpolator → unused interpolator w
-      → let made = iirFirPass (ratesOf p) (w .doubler, w .samples) xs in let left = iirFirEnd (ratesOf p) (w .doubler, w .samples) xs in
+  pub interpolated : {r : Rates} → path p ≡ interpolator → r ≡ ratesOf p → unused interpolator w
+      → let made = iirFirPass r (w .doubler, w .samples) xs in let left = iirFirEnd r (w .doubler, w .samples) xs in
       (pass p w xs ≡ made) × (passWords p w xs ≡ arrays (left .0) (left .1) [] [])
   unfolding pass passWords batchOut batchNext onPath afterPath unused made iirFirBatch iirFirNext iirFirPass iirFirEnd
-  interpolated e k =
+  interpolated e same-rates k =
       let r = ratesOf p in
       let same : (v : Words) (ys : List ℤ) → (batchOut p v ys ≡ iirFirBatch r (v .doubler, v .samples) ys)
       × (_≡_ {A = List ℤ × List ℤ} (batchNext p v ys .doubler, batchNext p v ys .samples) (iirFirNext (v .doubler, v .samples) ys)) = λ v ys. rw e (refl, refl) in
       let (o, n) = pass-part (batchOut p) (batchNext p) (iirFirBatch r) iirFirNext (λ v. (v .doubler, v .samples)) same (10 * p .inKhz) w xs in
       let (a, f) = still e k in
-      (o, λ i. arrays (n i .0) (n i .1) (a i) (f i))
+      rw same-rates (o, λ i. arrays (n i .0) (n i .1) (a i) (f i))
 
-  pub lowered : (g : Filter) → path p ≡ down g → unused (down g) w
-      → let made = downPass g (ratesOf p) (w .ar2, w .fir) xs in let left = downEnd g (ratesOf p) (w .ar2, w .fir) xs in
+  pub lowered : {g : Filter} {r : Rates} → path p ≡ down g → r ≡ ratesOf p → unused (down g) w
+      → let made = downPass g r (w .ar2, w .fir) xs in let left = downEnd g r (w .ar2, w .fir) xs in
       (pass p w xs ≡ made) × (passWords p w xs ≡ arrays [] [] (left .0) (left .1))
   unfolding pass passWords batchOut batchNext onPath afterPath unused made downBatch downNext downPass downEnd
-  lowered g e k =
+  lowered {g} e same-rates k =
       let r = ratesOf p in
       let same : (v : Words) (ys : List ℤ) → (batchOut p v ys ≡ downBatch g r (v .ar2, v .fir) ys)
       × (_≡_ {A = List ℤ × List ℤ} (batchNext p v ys .ar2, batchNext p v ys .fir) (downNext g (v .ar2, v .fir) ys)) = λ v ys. rw e (refl, refl) in
       let (o, n) = pass-part (batchOut p) (batchNext p) (downBatch g r) (downNext g) (λ v. (v .ar2, v .fir)) same (10 * p .inKhz) w xs in
       let (d, s) = still e k in
-      (o, λ i. arrays (d i) (s i) (n i .0) (n i .1))
+      rw same-rates (o, λ i. arrays (d i) (s i) (n i .0) (n i .1))
 
 -- ---- how many words a stage with a reader leaves
 
-pub iirFirEnd-length : (r : Rates) (w x xs : List ℤ) → length w ≡ 6 → length x ≡ 8
-    → (length (iirFirEnd r (w, x) xs .0) ≡ 6) × (length (iirFirEnd r (w, x) xs .1) ≡ 8)
+pub iirFirEnd-length : (r : Rates) (w x xs : List ℤ) {d y : List ℤ} → length w ≡ 6 → length x ≡ 8 → (d, y) ≡ iirFirEnd r (w, x) xs
+    → (length d ≡ 6) × (length y ≡ 8)
 unfolding iirFirEnd passEnd
-iirFirEnd-length r w x xs h k =
-    end-keeps iirFirNext (λ v. (length (v .0) ≡ 6) × (length (v .1) ≡ 8)) (λ v ys l. iirFirNext-length v ys (l .0) (l .1)) (w, x) _ (h, k)
+iirFirEnd-length r w x xs h k e =
+    let Six : List ℤ × List ℤ → Type 0 = λ v. (length (v .0) ≡ 6) × (length (v .1) ≡ 8) in
+    subst Six (sym e) (end-keeps iirFirNext Six (λ v ys l. iirFirNext-length v ys (l .0) (l .1)) (w, x) _ (h, k))
 
 pub downEnd-length : (g : Filter) (r : Rates) (a f xs : List ℤ) → length a ≡ 2 → length (downEnd g r (a, f) xs .0) ≡ 2
 unfolding downEnd downNext passEnd

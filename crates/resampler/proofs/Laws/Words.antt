@@ -14,7 +14,7 @@ use Rattle.filters.specs.Lists.{last}
 use Rattle.filters.specs.Stage.IirFir.{iirFirNext}
 use Rattle.filters.specs.Stage.DownFir.{downFirCarried}
 use Rattle.filters.specs.Stage.Ar2.{ar2}
-use Rattle.filters.proofs.Laws.Lists.{both-true, padded-length, take-padded}
+use Rattle.filters.proofs.Laws.Lists.{both-true, take-padded}
 use Rattle.filters.proofs.Laws.Lengths.{up2End-length, iirFirNext-length, ar2End-length}
 use Rattle.filters.proofs.Laws.Run.{end-keeps}
 use Rattle.filters.specs.Run.{passEnd}
@@ -91,14 +91,3 @@ module _ (p : Pair) (w : Words) where
       let c = take-padded 2 (w .ar2) _ (h .2) in
       let f = take-padded 36 (w .fir) _ (h .3) in
       λ i. arrays (a i) (b i) (c i) (f i)
-
-  pub keeping-whole : (d : List ℤ) → supported p ≡ true → Sized (path p) w → length d ≡ 48 → Whole (keeping p w d)
-  unfolding keeping
-  keeping-whole d s h l =
-      let r = room p s in (
-        padded-length 6 (w .doubler) (omega (arith, h .0, r .0)),
-        padded-length 8 (w .samples) (omega (arith, h .1, r .1)),
-        padded-length 2 (w .ar2) (omega (arith, h .2, r .2)),
-        padded-length 36 (w .fir) (omega (arith, h .3, r .3)),
-        l,
-      )

@@ -1,15 +1,17 @@
--- `resampler::resample::call` meets its contract: the first millisecond and the rest, a pass each, one behind the other, are what
--- the call makes. Assumes nothing.
-use mathlib.Core.Path.{refl}
+-- `resampler::resample::call` meets its contract: the delay samples with the input written behind those that are carried are the
+-- first millisecond, and both passes over it and the rest are what the call makes. Assumes nothing.
+use mathlib.Core.Path.{_≡_, refl, sym}
 use Prim.Native.Nat.{_-_, _≤_}
 use native.Mathlib.Omega.{arith}
 use borrow.Author.Needs.{needs}
+use borrow.Rule.Slice.PartMut.{putMid, mid-len}
 use denote.Ref.{now}
-use lib.ListN.{length, drop, length-take, length-drop}
-use Rattle.resampler.specs.Pairs.{delay}
+use lib.ListN.{length, take, drop, length-take, length-drop}
+use lib.Seq.{length-take-le}
 use Rattle.resampler.specs.Record.{pairOf}
+use Rattle.resampler.specs.Resample.{first}
 use Rattle.resampler.proofs.Laws.Pairs.{small}
-use Rattle.resampler.proofs.Laws.Call.{delay-within, first-fits, first-room, second-asks, call-is}
+use Rattle.resampler.proofs.Laws.Call.{delay-within, first-fits, first-filled, rest-part, carried-part, call-takes, call-is}
 use Rattle.resampler.proofs.resample.call.Statement.{statement}
 use Rattle.resampler.proofs.resample.call.Tie as tie
 
@@ -17,15 +19,24 @@ module _ (a : tie.After-delay) where
   abbrev start : tie.Start
   start = a .before .before .before .before
 
-  -- a delay is shorter than a millisecond, a millisecond is at most 48 samples, there is one of input, and room for what it makes
-  facts : let s = start .args .s in let d = a .delay .result in
-      (d ≤ s .inKhz) × (s .inKhz ≤ 48) × (s .inKhz ≤ length (now (start .args .input))) × (s .outKhz ≤ length (now (start .args .out)))
+  -- a delay is shorter than a millisecond, a millisecond is at most 48 samples, and there is one of input
+  facts : let s = start .args .s in (a .delay .result ≤ s .inKhz) × (s .inKhz ≤ 48) × (s .inKhz ≤ length (now (start .args .input)))
   facts =
       let s = start .args .s in
-      let xs = now (start .args .input) in
       let k = start .pre in
       let w = delay-within (pairOf s) (k .pair) in
-      (omega (arith, w, a .delay .ensures), small (pairOf s) (k .pair) .2, first-fits s xs _ k, first-room s xs _ k)
+      (omega (arith, w, a .delay .ensures), small (pairOf s) (k .pair) .2, first-fits s (now (start .args .input)) _ k)
+
+-- the array of delay samples, once the input is written into it
+module _ (c : tie.After-copy-samples) where
+  abbrev delayed : tie.After-delay
+  delayed = c .before .before .before .before
+
+  filled : let s = start delayed .args .s in let d = delayed .delay .result in let b = putMid d (s .inKhz - d) (s .delay) (c .copy-samples .last .0) in
+      (take (s .inKhz) b ≡ first s (now (start delayed .args .input))) × (length b ≡ 48)
+  filled =
+      let s = start delayed in
+      first-filled (s .args .s) (now (s .args .input)) _ (s .pre) (c .copy-samples .last .0) (delayed .delay .ensures) (c .copy-samples .ensures)
 
 cast-inKhz : tie.Need-cast-inKhz
 cast-inKhz c = search needs
@@ -39,83 +50,95 @@ cast-delay c = search needs
 delay-requires : tie.Need-delay-requires
 delay-requires c κs = search needs
 
-first-pass-requires : tie.Need-first-pass-requires
-first-pass-requires c κs =
-    let a = c .before in
-    let f = facts a in
-    let k = start a .pre in
-    ((k, a .delay .ensures), (f .0, f .1, f .2, k .delay))
-
 sub-end : tie.Need-sub-end
-sub-end c = omega (arith, facts (c .before .before .before))
+sub-end c = omega (arith, facts c)
 
-mul-pass : tie.Need-mul-pass
-mul-pass c = search needs
+mul-buf : tie.Need-mul-buf
+mul-buf c = record { fits = omega (arith, facts (c .before)) }
 
-sub-pass : tie.Need-sub-pass
-sub-pass c = omega (arith, facts (c .before .before .before), c .out .given)
+sub-copy-samples : tie.Need-sub-copy-samples
+sub-copy-samples c = facts (c .before) .0
 
-part-pass-start : tie.Need-part-pass-start
-part-pass-start c = omega (arith, facts (c .before .before .before), c .out .given)
+part-buf-start : tie.Need-part-buf-start
+part-buf-start c = facts (c .before) .0
 
-part-pass-end : tie.Need-part-pass-end
-part-pass-end c = search needs
+part-buf-end : tie.Need-part-buf-end
+part-buf-end c = omega (arith, facts (c .before), start (c .before) .pre .delay)
 
-sub-pass-2 : tie.Need-sub-pass-2
-sub-pass-2 c = facts (c .before .before .before .before) .0
+sub-copy-samples-2 : tie.Need-sub-copy-samples-2
+sub-copy-samples-2 c = facts (c .before .before) .0
 
-mul-pass-2 : tie.Need-mul-pass-2
-mul-pass-2 c = search needs
+slice-aggregate-copy-samples : tie.Need-slice-aggregate-copy-samples
+slice-aggregate-copy-samples c =
+    let a = c .before .before .before in
+    let s = start a .args in
+    sym (length-take-le (s .s .inKhz - a .delay .result) (now (s .input)) (omega (arith, facts a)))
 
-sub-pass-3 : tie.Need-sub-pass-3
-sub-pass-3 c = omega (arith, facts (c .before .before .before .before))
+copy-samples-requires : tie.Need-copy-samples-requires
+copy-samples-requires c κs =
+    let a = c .before .before .before in
+    let s = start a .args in
+    let l = mid-len (a .delay .result) (s .s .inKhz) (s .s .delay) (omega (arith, facts a, start a .pre .delay)) in
+    omega (arith, l, length-take (s .s .inKhz - a .delay .result) (now (s .input)))
 
-part-pass-start-2 : tie.Need-part-pass-start-2
-part-pass-start-2 c = omega (arith, facts (c .before .before .before .before))
+array-share-prefix-buf : tie.Need-array-share-prefix-buf
+array-share-prefix-buf c = let w = c .before .before in omega (arith, filled w .1, facts (delayed w))
 
-part-pass-end-2 : tie.Need-part-pass-end-2
-part-pass-end-2 c = search needs
+slice-aggregate-both : tie.Need-slice-aggregate-both
+slice-aggregate-both c =
+    let w = c .before .before .before in
+    sym (length-take-le (start (delayed w) .args .s .inKhz) _ (omega (arith, filled w .1, facts (delayed w))))
 
-pass-requires : tie.Need-pass-requires
-pass-requires c κs =
-    let o = c .before .before in
-    let f = o .before in
-    let a = f .before .before in
+sub-both : tie.Need-sub-both
+sub-both c = facts (delayed (c .before .before .before)) .0
+
+mul-both : tie.Need-mul-both
+mul-both c = search needs
+
+sub-both-2 : tie.Need-sub-both-2
+sub-both-2 c = omega (arith, facts (delayed (c .before .before .before)))
+
+part-both-start : tie.Need-part-both-start
+part-both-start c = omega (arith, facts (delayed (c .before .before .before)))
+
+part-both-end : tie.Need-part-both-end
+part-both-end c = search needs
+
+mul-both-2 : tie.Need-mul-both-2
+mul-both-2 c = search needs
+
+sub-both-3 : tie.Need-sub-both-3
+sub-both-3 c = search needs
+
+part-both-start-2 : tie.Need-part-both-start-2
+part-both-start-2 c = search needs
+
+part-both-end-2 : tie.Need-part-both-end-2
+part-both-end-2 c = search needs
+
+both-requires : tie.Need-both-requires
+both-requires c κs =
+    let w = c .before .before .before .before .before in
+    let a = delayed w in
     let s = start a in
-    second-asks (s .args .s) (now (s .args .input)) _ (s .pre) (a .delay .ensures) (f .first-pass .last .1 .1 .0) (f .first-pass .ensures .carried) (o .out .given)
-
-mul-carrying : tie.Need-mul-carrying
-mul-carrying c =
-    let a = c .before .before .before .before .before .before .before in
-    record { fits = omega (arith, start a .good .1 .1 .0) }
-
-sub-carrying : tie.Need-sub-carrying
-sub-carrying c = search needs
-
-part-carrying-start : tie.Need-part-carrying-start
-part-carrying-start c = search needs
-
-part-carrying-end : tie.Need-part-carrying-end
-part-carrying-end c = search needs
-
-carrying-requires : tie.Need-carrying-requires
-carrying-requires c κs =
-    let a = c .before .before .before .before .before .before .before .before in
-    let xs = now (start a .args .input) in
+    let k = s .pre in
+    let xs = now (s .args .input) in
     let m = length xs - a .delay .result in
-    omega (arith, facts a, length-take (length xs - m) (drop m xs), length-drop m xs)
+    let t = call-takes (s .args .s) xs _ k (filled w .0) (rest-part (s .args .s) xs _ k (a .delay .ensures)) refl in
+    (k .pair, ((k .doubler, k .samples, k .ar2, k .fir), (t, omega (arith, facts a, length-take (length xs - m) (drop m xs), length-drop m xs))))
 
 same-length : tie.Need-same-length
 same-length c = search needs
 
 returns : tie.Need-returns
 returns c =
-    let p = c .before .before .before in
-    let o = p .before .before .before in
-    let f = o .before in
-    let a = f .before .before in
+    let w = c .before .before .before .before .before .before .before in
+    let a = delayed w in
     let s = start a in
-    call-is (s .args .s) (now (s .args .input)) _ (s .pre) (a .delay .ensures) refl (f .first-pass .ensures) (p .pass .ensures) (c .carrying .ensures)
+    let k = s .pre in
+    let xs = now (s .args .input) in
+    let e = a .delay .ensures in
+    call-is (s .args .s) xs _ k (filled w .0) (rest-part (s .args .s) xs _ k e) (carried-part (s .args .s) xs _ k e) (c .before .both .ensures)
 
 pub call-spec : {M : Type 1} → statement M
 call-spec =
@@ -125,22 +148,25 @@ call-spec =
     cast-outKhz
     cast-delay
     delay-requires
-    first-pass-requires
     sub-end
-    mul-pass
-    sub-pass
-    part-pass-start
-    part-pass-end
-    sub-pass-2
-    mul-pass-2
-    sub-pass-3
-    part-pass-start-2
-    part-pass-end-2
-    pass-requires
-    mul-carrying
-    sub-carrying
-    part-carrying-start
-    part-carrying-end
-    carrying-requires
+    mul-buf
+    sub-copy-samples
+    part-buf-start
+    part-buf-end
+    sub-copy-samples-2
+    slice-aggregate-copy-samples
+    copy-samples-requires
+    array-share-prefix-buf
+    slice-aggregate-both
+    sub-both
+    mul-both
+    sub-both-2
+    part-both-start
+    part-both-end
+    mul-both-2
+    sub-both-3
+    part-both-start-2
+    part-both-end-2
+    both-requires
     same-length
     returns)
