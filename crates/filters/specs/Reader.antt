@@ -1,11 +1,14 @@
 -- Reading a buffer at fractional positions, and the sums of products that are read there.
 -- Shared by the interpolator, the down filters and, for the sums, the 2/3 decimator. Assumes nothing.
+use mathlib.Core.Path.{_≡_}
+use mathlib.Core.Bool.{true}
 use Prim.Native.Nat.{ℕ, _+_, _-_, _*_, _/_, _%_, _<_, _≤_}
 use mathlib.Core.List.{List, [], _∷_, _++_, reverse}
-use lib.IntN.{ℤ, _+ℤ_}
+use lib.Dec.{ltb}
+use lib.IntN.{ℤ, natAbs, _+ℤ_}
 use lib.ListN.{length, drop, getD}
 use Rattle.filters.specs.declared.rates.Rates.{Rates}
-use Rattle.filters.specs.Lists.{tabulate}
+use Rattle.filters.specs.Lists.{tabulate, every}
 use Rattle.fixed.specs.Fixed.{wrapped}
 
 -- n outputs: output j stands j increments from the start, in 65536ths of a sample,
@@ -43,3 +46,7 @@ module _ (product : ℤ → ℤ → ℤ) where
   sum s [] ys = s
   sum s (c ∷ cs) [] = s
   sum s (c ∷ cs) (y ∷ ys) = sum (wrapped (s +ℤ product c y)) cs ys
+
+-- coefficients whose products fit a word: each below 65536 in size
+abbrev pub Small : List ℤ → Type 0
+Small cs = every (λ c. ltb (natAbs c) 65536) cs ≡ true

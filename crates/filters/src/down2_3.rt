@@ -33,7 +33,7 @@ pub struct Group {
     pub words: Words,
 }
 
-fn filtered_three(s: ar2::Words, x: i16, y: i16, z: i16, t: &[i16]) -> Three
+fn filtered_three(s: ar2::Words, x: i16, y: i16, z: i16, t: &[i64]) -> Three
     requires { ⌜ now t ≡ silk-Resampler-2-3-COEFS-LQ ⌝ }
     ensures { λ r. ⌜ r .y0 ∷ r .y1 ∷ r .y2 ∷ [] ≡ ar2 silk-Resampler-2-3-COEFS-LQ (s .w) (x ∷ y ∷ z ∷ []) ⌝ }
     ensures { λ r. ⌜ r .s0 ∷ r .s1 ∷ [] ≡ ar2End silk-Resampler-2-3-COEFS-LQ (s .w) (x ∷ y ∷ z ∷ []) ⌝ }
@@ -55,7 +55,7 @@ fn filtered_three(s: ar2::Words, x: i16, y: i16, z: i16, t: &[i16]) -> Three
 
 // The taps at four places, each with its sample.
 fn four(
-    t: &[i16; 6],
+    t: &[i64; 6],
     c0: usize,
     c1: usize,
     c2: usize,
@@ -65,7 +65,7 @@ fn four(
     y2: i32,
     y3: i32,
 ) -> i16
-    requires { ⌜ (c0 < 6) × (c1 < 6) × (c2 < 6) × (c3 < 6) ⌝ }
+    requires { ⌜ (c0 < 6) × (c1 < 6) × (c2 < 6) × (c3 < 6) × (now t ≡ silk-Resampler-2-3-COEFS-LQ) ⌝ }
     ensures { λ r. ⌜ r ≡ narrowed 6 (tapped (now (t .entry) ! c0 ∷ now (t .entry) ! c1 ∷ now (t .entry) ! c2 ∷ now (t .entry) ! c3 ∷ []) (y0 ∷ y1 ∷ y2 ∷ y3 ∷ [])) ⌝ }
 {
     fixed::narrow(
@@ -75,7 +75,7 @@ fn four(
 }
 
 // The first output of a group is read from its start, the second from one sample later.
-pub fn group_of(s: Words, x: i16, y: i16, z: i16, t: &[i16; 6]) -> Group
+pub fn group_of(s: Words, x: i16, y: i16, z: i16, t: &[i64; 6]) -> Group
     requires { ⌜ (length (s .w) ≡ 6) × (now t ≡ silk-Resampler-2-3-COEFS-LQ) ⌝ }
     ensures { λ r. ⌜ r .first ∷ r .second ∷ [] ≡ down23 (s .w) (x ∷ y ∷ z ∷ []) ⌝ }
     ensures { λ r. ⌜ r .words .w ≡ down23End (s .w) (x ∷ y ∷ z ∷ []) ⌝ }

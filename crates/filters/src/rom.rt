@@ -1,6 +1,7 @@
 // The coefficients, under the names of silk/resampler/rom.rs and silk/ana_filt_bank_1.rs. What they are is said, row by row,
 // in specs/Rom.antt; `tied` at the end proves by computation that each holds just that.
-// A coefficient that the Rust keeps less 65536, to fit an i16, stands whole.
+// A coefficient that the Rust keeps less 65536, to fit an i16, stands whole. Taps stand as wide as the products that they go into
+// are made, so that no product widens one.
 ghost use mathlib.Core.Path.{_≡_};
 ghost use Rattle.filters.specs.Rom as Rom;
 
@@ -28,7 +29,7 @@ pub const silk_resampler_up2_hq_0: [i32; 3] = [1746, 14986, 39083];
 pub const silk_resampler_up2_hq_1: [i32; 3] = [6854, 25769, 55542];
 
 // The down filters: A0 and A1, then the rows of taps.
-pub const silk_Resampler_3_4_COEFS: [i16; 29] = [
+pub const silk_Resampler_3_4_COEFS: [i64; 29] = [
     -20694,
     -13867,
     -49,
@@ -60,7 +61,7 @@ pub const silk_Resampler_3_4_COEFS: [i16; 29] = [
     15909,
 ];
 
-pub const silk_Resampler_2_3_COEFS: [i16; 20] = [
+pub const silk_Resampler_2_3_COEFS: [i64; 20] = [
     -14457,
     -14019,
     64,
@@ -83,7 +84,7 @@ pub const silk_Resampler_2_3_COEFS: [i16; 20] = [
     14459,
 ];
 
-pub const silk_Resampler_1_2_COEFS: [i16; 14] = [
+pub const silk_Resampler_1_2_COEFS: [i64; 14] = [
     616,
     -14323,
     -10,
@@ -100,7 +101,7 @@ pub const silk_Resampler_1_2_COEFS: [i16; 14] = [
     9024,
 ];
 
-pub const silk_Resampler_1_3_COEFS: [i16; 20] = [
+pub const silk_Resampler_1_3_COEFS: [i64; 20] = [
     16102,
     -15162,
     -13,
@@ -123,7 +124,7 @@ pub const silk_Resampler_1_3_COEFS: [i16; 20] = [
     3271,
 ];
 
-pub const silk_Resampler_1_4_COEFS: [i16; 20] = [
+pub const silk_Resampler_1_4_COEFS: [i64; 20] = [
     22500,
     -15099,
     3,
@@ -146,7 +147,7 @@ pub const silk_Resampler_1_4_COEFS: [i16; 20] = [
     1464,
 ];
 
-pub const silk_Resampler_1_6_COEFS: [i16; 20] = [
+pub const silk_Resampler_1_6_COEFS: [i64; 20] = [
     27540,
     -15257,
     17,
@@ -170,10 +171,10 @@ pub const silk_Resampler_1_6_COEFS: [i16; 20] = [
 ];
 
 // The 2/3 decimator: A0 and A1, then its four taps.
-pub const silk_Resampler_2_3_COEFS_LQ: [i16; 6] = [-2797, -6507, 4697, 10739, 1567, 8276];
+pub const silk_Resampler_2_3_COEFS_LQ: [i64; 6] = [-2797, -6507, 4697, 10739, 1567, 8276];
 
 // The interpolator: twelve rows of four taps.
-pub const silk_resampler_frac_FIR_12: [[i16; 4]; 12] = [
+pub const silk_resampler_frac_FIR_12: [[i32; 4]; 12] = [
     [189, -600, 617, 30567],
     [117, -159, -1070, 29704],
     [52, 221, -2392, 28276],
@@ -196,13 +197,13 @@ fn sections_are(down0: i32, down1: i32, fb0: i32, fb1: i32, even: [i32; 3], odd:
 {}
 
 fn filters_are(
-    c34: [i16; 29],
-    c23: [i16; 20],
-    c12: [i16; 14],
-    c13: [i16; 20],
-    c14: [i16; 20],
-    c16: [i16; 20],
-    lq: [i16; 6],
+    c34: [i64; 29],
+    c23: [i64; 20],
+    c12: [i64; 14],
+    c13: [i64; 20],
+    c14: [i64; 20],
+    c16: [i64; 20],
+    lq: [i64; 6],
 )
     requires { ⌜ (c34 ≡ Rom.silk-Resampler-3-4-COEFS) × (c23 ≡ Rom.silk-Resampler-2-3-COEFS) ⌝ }
     requires { ⌜ (c12 ≡ Rom.silk-Resampler-1-2-COEFS) × (c13 ≡ Rom.silk-Resampler-1-3-COEFS) ⌝ }
@@ -210,7 +211,7 @@ fn filters_are(
     requires { ⌜ lq ≡ Rom.silk-Resampler-2-3-COEFS-LQ ⌝ }
 {}
 
-fn interpolation_is(frac: [[i16; 4]; 12])
+fn interpolation_is(frac: [[i32; 4]; 12])
     requires { ⌜ frac ≡ Rom.silk-resampler-frac-FIR-12 ⌝ }
 {}
 

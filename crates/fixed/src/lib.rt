@@ -40,14 +40,15 @@ pub fn mul_q16(c: i32, y: i32) -> i32
     requires { ⌜ natAbs c < 65536 ⌝ }
     ensures { λ r. ⌜ r ≡ times c y ⌝ }
 {
-    (((c as i64) * (y as i64)) >> 16) as i32
+    mul_wide(c as i64, y)
 }
 
-// The same for a coefficient of 16 bits, as the tables hold them: silk_SMULWB.
-pub fn mul_i16(c: i16, y: i32) -> i32
+// The same for a coefficient that stands in 64 bits, as the taps do: silk_SMULWB.
+pub fn mul_wide(c: i64, y: i32) -> i32
+    requires { ⌜ natAbs c < 65536 ⌝ }
     ensures { λ r. ⌜ r ≡ times c y ⌝ }
 {
-    mul_q16(c as i32, y)
+    ((c * (y as i64)) >> 16) as i32
 }
 
 // r held to what an i16 can hold: silk_SAT16.

@@ -75,14 +75,14 @@ fn fits(r: Rates, n: usize, room: usize) -> bool
 
 fn down(
     r: Rates,
-    cs: &[i16],
+    cs: &[i64],
     order: usize,
     rows: usize,
     words: DownWords,
     out: &mut [i16],
     input: &[i16],
 ) -> DownPass
-    requires { ⌜ Fitting order rows (now cs) × Steady (r .inKhz) r × (0 < r .outKhz) × (length (words .fir) ≡ 36) ⌝ }
+    requires { ⌜ Fitting order rows (now cs) × Steady (r .inKhz) r × (r .outKhz ≤ 16) × (0 < r .outKhz) × (length (words .fir) ≡ 36) ⌝ }
 {
     if !fits(r, input.len(), out.len()) {
         return DownPass { written: 0, words };

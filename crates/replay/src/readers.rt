@@ -10,7 +10,7 @@ ghost use mathlib.Core.Path.{_≡_};
 ghost use mathlib.Core.Bool.{true};
 ghost use Prim.Native.Nat.{_*_, _%_, _≤_, _<_};
 ghost use lib.ListN.{length};
-ghost use Rattle.filters.specs.Reader.{outputs, Steady};
+ghost use Rattle.filters.specs.Reader.{outputs, Steady, Small as SmallTaps};
 ghost use Rattle.replay.specs.Small.{Small};
 
 // A number that is one of 1 to `most`; 1 where it is another.
@@ -150,8 +150,8 @@ fn down_words(given: &[i32; 48], order: usize) -> DownWords
 }
 
 // The tables of order 36.
-fn coefs_36(which: i32) -> [i16; 20]
-    ensures { λ r. ⌜ length r ≡ 20 ⌝ }
+fn coefs_36(which: i32) -> [i64; 20]
+    ensures { λ r. ⌜ (length r ≡ 20) × SmallTaps r ⌝ }
 {
     match which {
         3 => rom::silk_Resampler_1_3_COEFS,
@@ -162,7 +162,7 @@ fn coefs_36(which: i32) -> [i16; 20]
 
 // A pass of one of the six down filters.
 fn down(which: i32, r: Rates, s: DownWords, out: &mut [i16], input: &[i16]) -> DownPass
-    requires { ⌜ Steady (r .inKhz) r × (length (s .fir) ≡ 36) ⌝ }
+    requires { ⌜ Steady (r .inKhz) r × (r .outKhz ≤ 16) × (length (s .fir) ≡ 36) ⌝ }
     requires { ⌜ (length (now input) % r .inKhz ≡ 0) × (outputs r (length (now input)) ≤ length (now out)) ⌝ }
     ensures { λ q. ⌜ length (q .words .fir) ≡ 36 ⌝ }
 {
@@ -199,7 +199,7 @@ fn down(which: i32, r: Rates, s: DownWords, out: &mut [i16], input: &[i16]) -> D
 }
 
 fn down_fir_pass(fd: i32, r: Rates, given: &[i32; 48], out: &mut [i16], input: &[i16]) -> bool
-    requires { ⌜ Steady (r .inKhz) r ⌝ }
+    requires { ⌜ Steady (r .inKhz) r × (r .outKhz ≤ 16) ⌝ }
     requires { ⌜ (length (now input) % r .inKhz ≡ 0) × (outputs r (length (now input)) ≤ length (now out)) ⌝ }
 {
     let which = runs::word(given, 0);
@@ -213,6 +213,9 @@ fn down_fir_pass(fd: i32, r: Rates, given: &[i32; 48], out: &mut [i16], input: &
 
 pub fn down_fir(fd: i32, given: &[i32; 48], out: &mut [i16], input: &[i16]) -> bool {
     let r = rates(given, 1);
+    if 16 < r.outKhz {
+        return false;
+    }
     if takes(r, r.inKhz, input.len(), out.len()) {
         return down_fir_pass(fd, r, given, out, input);
     }

@@ -4,7 +4,8 @@ use crate::file;
 use crate::readers;
 use stages::Answer;
 ghost use mathlib.Core.Path.{_≡_};
-ghost use Prim.Native.Nat.{_≤_};
+ghost use Prim.Native.Nat.{_<_, _≤_};
+ghost use lib.IntN.{natAbs};
 ghost use lib.ListN.{length};
 
 // What a place of an output holds before a call.
@@ -37,6 +38,13 @@ pub fn sample(given: &[i32; 48], i: usize) -> i16 {
     fixed::clip(word(given, i))
 }
 
+// A sample as a tap.
+fn tap(given: &[i32; 48], i: usize) -> i64
+    ensures { λ r. ⌜ natAbs r < 65536 ⌝ }
+{
+    sample(given, i) as i64
+}
+
 // Six words from `at` on.
 pub fn six(given: &[i32; 48], at: usize) -> [i32; 6]
     requires { ⌜ at ≤ 48 ⌝ }
@@ -57,7 +65,7 @@ fn ar2(fd: i32, given: &[i32; 48], input: &[i16]) -> bool {
     if 1024 < n {
         return false;
     }
-    let a = [sample(given, 0), sample(given, 1)];
+    let a = [tap(given, 0), tap(given, 1)];
     let mut out = [0i32; 1024];
     let after = stages::silk_resampler_private_AR2(
         [word(given, 2), word(given, 3)],

@@ -111,14 +111,14 @@ fn interpolator_passes(
 fn down_both(
     w: DownWords,
     r: Rates,
-    cs: &[i16],
+    cs: &[i64],
     order: usize,
     rows: usize,
     out: &mut [i16],
     first: &[i16],
     rest: &[i16],
 ) -> DownWords
-    requires { ⌜ Fitting order rows (now cs) × Steady (r .inKhz) r × (length (w .fir) ≡ 36) ⌝ }
+    requires { ⌜ Fitting order rows (now cs) × Steady (r .inKhz) r × (r .outKhz ≤ 16) × (length (w .fir) ≡ 36) ⌝ }
     requires { ⌜ Taking r (now first) (now rest) (now out) ⌝ }
     ensures { λ q. ⌜ Lowered (filterOf order (now (cs .entry))) r w (now (first .entry)) (now (rest .entry)) (now (out .entry)) (now (out .exit)) q ⌝ }
 {
@@ -139,7 +139,7 @@ fn down_both(
 
 // The six down filters, each with its table.
 fn down_3_4(w: DownWords, r: Rates, out: &mut [i16], first: &[i16], rest: &[i16]) -> DownWords
-    requires { ⌜ Steady (r .inKhz) r × (length (w .fir) ≡ 36) × Taking r (now first) (now rest) (now out) ⌝ }
+    requires { ⌜ Steady (r .inKhz) r × (r .outKhz ≤ 16) × (length (w .fir) ≡ 36) × Taking r (now first) (now rest) (now out) ⌝ }
     ensures { λ q. ⌜ Lowered down-3/4 r w (now (first .entry)) (now (rest .entry)) (now (out .entry)) (now (out .exit)) q ⌝ }
 {
     down_both(
@@ -155,7 +155,7 @@ fn down_3_4(w: DownWords, r: Rates, out: &mut [i16], first: &[i16], rest: &[i16]
 }
 
 fn down_2_3(w: DownWords, r: Rates, out: &mut [i16], first: &[i16], rest: &[i16]) -> DownWords
-    requires { ⌜ Steady (r .inKhz) r × (length (w .fir) ≡ 36) × Taking r (now first) (now rest) (now out) ⌝ }
+    requires { ⌜ Steady (r .inKhz) r × (r .outKhz ≤ 16) × (length (w .fir) ≡ 36) × Taking r (now first) (now rest) (now out) ⌝ }
     ensures { λ q. ⌜ Lowered down-2/3 r w (now (first .entry)) (now (rest .entry)) (now (out .entry)) (now (out .exit)) q ⌝ }
 {
     down_both(
@@ -171,7 +171,7 @@ fn down_2_3(w: DownWords, r: Rates, out: &mut [i16], first: &[i16], rest: &[i16]
 }
 
 fn down_1_2(w: DownWords, r: Rates, out: &mut [i16], first: &[i16], rest: &[i16]) -> DownWords
-    requires { ⌜ Steady (r .inKhz) r × (length (w .fir) ≡ 36) × Taking r (now first) (now rest) (now out) ⌝ }
+    requires { ⌜ Steady (r .inKhz) r × (r .outKhz ≤ 16) × (length (w .fir) ≡ 36) × Taking r (now first) (now rest) (now out) ⌝ }
     ensures { λ q. ⌜ Lowered down-1/2 r w (now (first .entry)) (now (rest .entry)) (now (out .entry)) (now (out .exit)) q ⌝ }
 {
     down_both(
@@ -187,7 +187,7 @@ fn down_1_2(w: DownWords, r: Rates, out: &mut [i16], first: &[i16], rest: &[i16]
 }
 
 fn down_1_3(w: DownWords, r: Rates, out: &mut [i16], first: &[i16], rest: &[i16]) -> DownWords
-    requires { ⌜ Steady (r .inKhz) r × (length (w .fir) ≡ 36) × Taking r (now first) (now rest) (now out) ⌝ }
+    requires { ⌜ Steady (r .inKhz) r × (r .outKhz ≤ 16) × (length (w .fir) ≡ 36) × Taking r (now first) (now rest) (now out) ⌝ }
     ensures { λ q. ⌜ Lowered down-1/3 r w (now (first .entry)) (now (rest .entry)) (now (out .entry)) (now (out .exit)) q ⌝ }
 {
     down_both(
@@ -203,7 +203,7 @@ fn down_1_3(w: DownWords, r: Rates, out: &mut [i16], first: &[i16], rest: &[i16]
 }
 
 fn down_1_4(w: DownWords, r: Rates, out: &mut [i16], first: &[i16], rest: &[i16]) -> DownWords
-    requires { ⌜ Steady (r .inKhz) r × (length (w .fir) ≡ 36) × Taking r (now first) (now rest) (now out) ⌝ }
+    requires { ⌜ Steady (r .inKhz) r × (r .outKhz ≤ 16) × (length (w .fir) ≡ 36) × Taking r (now first) (now rest) (now out) ⌝ }
     ensures { λ q. ⌜ Lowered down-1/4 r w (now (first .entry)) (now (rest .entry)) (now (out .entry)) (now (out .exit)) q ⌝ }
 {
     down_both(
@@ -219,7 +219,7 @@ fn down_1_4(w: DownWords, r: Rates, out: &mut [i16], first: &[i16], rest: &[i16]
 }
 
 fn down_1_6(w: DownWords, r: Rates, out: &mut [i16], first: &[i16], rest: &[i16]) -> DownWords
-    requires { ⌜ Steady (r .inKhz) r × (length (w .fir) ≡ 36) × Taking r (now first) (now rest) (now out) ⌝ }
+    requires { ⌜ Steady (r .inKhz) r × (r .outKhz ≤ 16) × (length (w .fir) ≡ 36) × Taking r (now first) (now rest) (now out) ⌝ }
     ensures { λ q. ⌜ Lowered down-1/6 r w (now (first .entry)) (now (rest .entry)) (now (out .entry)) (now (out .exit)) q ⌝ }
 {
     down_both(
@@ -236,7 +236,7 @@ fn down_1_6(w: DownWords, r: Rates, out: &mut [i16], first: &[i16], rest: &[i16]
 
 // A lower rate: the filter is picked by the ratio of the two.
 fn down(w: DownWords, r: Rates, out: &mut [i16], first: &[i16], rest: &[i16]) -> DownWords
-    requires { ⌜ Steady (r .inKhz) r × (length (w .fir) ≡ 36) × Taking r (now first) (now rest) (now out) ⌝ }
+    requires { ⌜ Steady (r .inKhz) r × (r .outKhz ≤ 16) × (length (w .fir) ≡ 36) × Taking r (now first) (now rest) (now out) ⌝ }
     ensures { λ q. ⌜ Lowered (filterAt r) r w (now (first .entry)) (now (rest .entry)) (now (out .entry)) (now (out .exit)) q ⌝ }
 {
     let i = r.inKhz;
@@ -268,7 +268,7 @@ fn down_passes(
     tail: &[i16],
 ) -> Record
     requires { ⌜ (Pairs.path (pairOf s) ≡ Pairs.down (filterAt r)) × (r ≡ ratesOf (pairOf s)) × (length (s .ar2) ≡ 2) × (length (s .fir) ≡ 36) ⌝ }
-    requires { ⌜ Steady (r .inKhz) r ⌝ }
+    requires { ⌜ Steady (r .inKhz) r × (r .outKhz ≤ 16) ⌝ }
     requires { ⌜ Taking r (now first) (now rest) (now out) × (length (now tail) ≤ 48) ⌝ }
     ensures { λ q. ⌜ Staged (bothOut s (now (first .entry)) (now (rest .entry))) (bothAfter s (now (first .entry)) (now (rest .entry)) (now (tail .entry))) (now (out .entry)) (now (out .exit)) q ⌝ }
 {

@@ -92,12 +92,7 @@ pub extern "C" fn simmerpatch_down2(s: Two, out: &mut [i16], input: &[i16]) -> H
     let o = stages::silk_resampler_down2(given, out, input);
     let answer = o.answer;
     let w = o.words;
-    let n = counted(answer);
-    Halves {
-        refused: n.refused,
-        written: n.written,
-        words: Two { w },
-    }
+    in_halves(answer, w)
 }
 
 #[no_mangle]
@@ -113,12 +108,7 @@ pub extern "C" fn simmerpatch_split(
     let o = stages::silk_ana_filt_bank_1(given, low, high, input);
     let answer = o.answer;
     let w = o.words;
-    let n = counted(answer);
-    Halves {
-        refused: n.refused,
-        written: n.written,
-        words: Two { w },
-    }
+    in_halves(answer, w)
 }
 
 #[no_mangle]
@@ -134,6 +124,17 @@ pub extern "C" fn simmerpatch_down2_3(s: Six, out: &mut [i16], input: &[i16]) ->
         refused: n.refused,
         written: n.written,
         words: Six { w },
+    }
+}
+
+fn in_halves(a: Answer, w: [i32; 2]) -> Halves
+    ensures { λ r. ⌜ (r .refused ≡ number a) × (r .written ≡ count a) × (r .words .w ≡ w) ⌝ }
+{
+    let n = counted(a);
+    Halves {
+        refused: n.refused,
+        written: n.written,
+        words: Two { w },
     }
 }
 

@@ -22,7 +22,7 @@ pub struct Thirds {
 }
 
 // Fills the front of the output and returns the words after the input.
-fn decimate(words: [i32; 6], out: &mut [i16], input: &[i16], t: &[i16; 6]) -> [i32; 6]
+fn decimate(words: [i32; 6], out: &mut [i16], input: &[i16], t: &[i64; 6]) -> [i32; 6]
     requires { ⌜ (length words ≡ 6) × (length (now input) % 3 ≡ 0) × (now t ≡ silk-Resampler-2-3-COEFS-LQ) ⌝ }
     requires { ⌜ 2 * (length (now input) / 3) ≤ length (now out) ⌝ }
     ensures { λ r. ⌜ Staged (down23 words (now (input .entry))) (down23End words (now (input .entry))) (now (out .entry)) (now (out .exit)) r ⌝ }

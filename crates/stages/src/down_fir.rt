@@ -9,8 +9,9 @@ use filters::rates::Rates;
 ghost use mathlib.Core.Path.{_≡_};
 ghost use mathlib.Core.List.{_++_};
 ghost use Prim.Native.Nat.{_+_, _*_, _-_, _/_, _%_, _<_, _≤_};
+ghost use lib.IntN.{natAbs};
 ghost use lib.ListN.{length, take};
-ghost use Rattle.filters.specs.Lists.{padded};
+ghost use Rattle.filters.specs.Lists.{_!_, padded};
 ghost use Rattle.filters.specs.Reader.{read as reading, outputs, Steady};
 ghost use Rattle.stages.specs.Outcome.{over, Staged};
 ghost use Rattle.filters.specs.Stage.Ar2.{ar2 as filtered, ar2End};
@@ -20,7 +21,7 @@ ghost use Rattle.filters.specs.Stage.DownFir.{Fitting, filterOf, filtered as fi
 fn sums(
     increment: usize,
     n: usize,
-    cs: &[i16],
+    cs: &[i64],
     order: usize,
     rows: usize,
     buf: &[i32],
@@ -46,7 +47,7 @@ fn sums(
 fn read(
     increment: usize,
     n: usize,
-    cs: &[i16],
+    cs: &[i64],
     order: usize,
     rows: usize,
     buf: &[i32],
@@ -54,10 +55,10 @@ fn read(
 )
     requires { ⌜ Fitting order rows (now cs) ⌝ }
     requires { ⌜ (order ≤ length (now buf)) × (n * increment < 65536 * (length (now buf) - order) + increment) ⌝ }
-    requires { ⌜ (increment < 16777216) × (length (now buf) ≤ 516) × (n ≤ 480) × (n ≤ length (now out)) ⌝ }
+    requires { ⌜ (increment < 16777216) × (length (now buf) ≤ 516) × (n ≤ 160) × (n ≤ length (now out)) ⌝ }
     ensures { λ r. ⌜ now (out .exit) ≡ over (reading (fir (filterOf order (now (cs .entry)))) increment n (now (buf .entry))) (now (out .entry)) ⌝ }
 {
-    let mut raw = [0i32; 480];
+    let mut raw = [0i32; 160];
     sums(increment, n, cs, order, rows, buf, &mut raw);
     words::narrow(out, 6, &raw[..n]);
 }
@@ -75,8 +76,8 @@ pub struct DownPass {
 }
 
 // Puts the carried words and behind them what AR2 makes of the input to the front of the buffer; returns AR2's words.
-fn fill(buf: &mut [i32], ar2: [i32; 2], carried: &[i32], input: &[i16], cs: &[i16]) -> [i32; 2]
-    requires { ⌜ (length (now carried) + length (now input) ≤ length (now buf)) × (2 ≤ length (now cs)) ⌝ }
+fn fill(buf: &mut [i32], ar2: [i32; 2], carried: &[i32], input: &[i16], cs: &[i64]) -> [i32; 2]
+    requires { ⌜ (length (now carried) + length (now input) ≤ length (now buf)) × (2 ≤ length (now cs)) × (natAbs (now cs ! 0) < 65536) × (natAbs (now cs ! 1) < 65536) ⌝ }
     ensures { λ r. ⌜ Staged (now (carried .entry) ++ filtered (now (cs .entry)) ar2 (now (input .entry))) (ar2End (now (cs .entry)) ar2 (now (input .entry))) (now (buf .entry)) (now (buf .exit)) r ⌝ }
 {
     let order = carried.len();
@@ -97,14 +98,14 @@ fn kept(from: &[i32]) -> [i32; 36]
 // A batch of at most 10 ms, whole milliseconds.
 fn batch(
     r: Rates,
-    cs: &[i16],
+    cs: &[i64],
     order: usize,
     rows: usize,
     s: DownWords,
     out: &mut [i16],
     input: &[i16],
 ) -> DownPass
-    requires { ⌜ Fitting order rows (now cs) × Steady (r .inKhz) r × (length (s .fir) ≡ 36) ⌝ }
+    requires { ⌜ Fitting order rows (now cs) × Steady (r .inKhz) r × (r .outKhz ≤ 16) × (length (s .fir) ≡ 36) ⌝ }
     requires { ⌜ (length (now input) % r .inKhz ≡ 0) × (length (now input) ≤ 10 * r .inKhz) × (outputs r (length (now input)) ≤ length (now out)) ⌝ }
     ensures { λ q. ⌜ q .written ≡ outputs r (length (now (input .entry))) ⌝ }
     ensures { λ q. ⌜ Staged (downBatch (filterOf order (now (cs .entry))) r (s .ar2, take order (s .fir)) (now (input .entry))) (downNext (filterOf order (now (cs .entry))) (s .ar2, take order (s .fir)) (now (input .entry))) (now (out .entry)) (now (out .exit)) (q .words .ar2, take order (q .words .fir)) ⌝ }
@@ -134,14 +135,14 @@ fn batch(
 // the others are zero.
 pub fn silk_resampler_private_down_FIR(
     r: Rates,
-    cs: &[i16],
+    cs: &[i64],
     order: usize,
     rows: usize,
     s: DownWords,
     out: &mut [i16],
     input: &[i16],
 ) -> DownPass
-    requires { ⌜ Fitting order rows (now cs) × Steady (r .inKhz) r × (length (s .fir) ≡ 36) ⌝ }
+    requires { ⌜ Fitting order rows (now cs) × Steady (r .inKhz) r × (r .outKhz ≤ 16) × (length (s .fir) ≡ 36) ⌝ }
     requires { ⌜ (length (now input) % r .inKhz ≡ 0) × (outputs r (length (now input)) ≤ length (now out)) ⌝ }
     ensures { λ q. ⌜ q .written ≡ outputs r (length (now (input .entry))) ⌝ }
     ensures { λ q. ⌜ Staged (downPass (filterOf order (now (cs .entry))) r (s .ar2, take order (s .fir)) (now (input .entry))) (downEnd (filterOf order (now (cs .entry))) r (s .ar2, take order (s .fir)) (now (input .entry))) (now (out .entry)) (now (out .exit)) (q .words .ar2, take order (q .words .fir)) ⌝ }

@@ -18,7 +18,7 @@ ghost use Rattle.filters.specs.Stage.Up2Hq.{up2, up2End};
 ghost use Rattle.filters.specs.Stage.IirFir.{interpolation, interpolated, iirFirBatch, iirFirNext, iirFirPass, iirFirEnd};
 
 // The first n outputs that are read from the buffer, an increment apart, before they are narrowed.
-fn sums(t: &[[i16; 4]; 12], increment: usize, n: usize, buf: &[i16], out: &mut [i32])
+fn sums(t: &[[i32; 4]; 12], increment: usize, n: usize, buf: &[i16], out: &mut [i32])
     requires { ⌜ now t ≡ silk-resampler-frac-FIR-12 ⌝ }
     requires { ⌜ (8 ≤ length (now buf)) × (n * increment < 65536 * (length (now buf) - 8) + increment) ⌝ }
     requires { ⌜ (increment < 16777216) × (length (now buf) ≤ 328) × (n ≤ length (now out)) ⌝ }
@@ -36,7 +36,7 @@ fn sums(t: &[[i16; 4]; 12], increment: usize, n: usize, buf: &[i16], out: &mut [
 }
 
 // The same, narrowed, which takes eight at a time apart from the loop that makes them.
-fn read(t: &[[i16; 4]; 12], increment: usize, n: usize, buf: &[i16], out: &mut [i16])
+fn read(t: &[[i32; 4]; 12], increment: usize, n: usize, buf: &[i16], out: &mut [i16])
     requires { ⌜ now t ≡ silk-resampler-frac-FIR-12 ⌝ }
     requires { ⌜ (8 ≤ length (now buf)) × (n * increment < 65536 * (length (now buf) - 8) + increment) ⌝ }
     requires { ⌜ (increment < 16777216) × (length (now buf) ≤ 328) × (n ≤ 480) × (n ≤ length (now out)) ⌝ }

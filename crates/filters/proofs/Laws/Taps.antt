@@ -6,15 +6,28 @@ use mathlib.Core.List.{List, [], _∷_, _++_, reverse}
 use Prim.Native.Nat.{ℕ, zero, suc, _+_, _*_, _-_, _/_, _<_}
 use native.Mathlib.Nat.{not-suc-le-zero, le-of-suc-le-suc, mul-lt-mul-of-pos-right, mul-le-mul-left, mul-suc}
 use native.Mathlib.Omega.{arith}
-use borrow.Author.Tests.{eqb-true}
-use lib.Dec.{eqb}
-use lib.IntN.{ℤ}
+use borrow.Author.Tests.{eqb-true, ltb-true}
+use lib.Dec.{eqb, ltb}
+use lib.IntN.{ℤ, pos, natAbs}
 use lib.ListN.{length, take, drop, getD, length-drop}
 use lib.Seq.{drop-drop}
-use Rattle.filters.specs.Lists.{cut, every}
+use Rattle.filters.specs.Lists.{_!_, cut, every}
 use Rattle.filters.specs.Rom.{silk-resampler-frac-FIR-12}
-use Rattle.filters.specs.Reader.{mirrored}
+use Rattle.filters.specs.Reader.{mirrored, Small}
 use Rattle.filters.proofs.Laws.Lists.{both-true, cut-at, cut-count}
+
+-- ---- every entry of a table
+
+-- a test that every entry passes, the entry at k passes
+every-at : {A : Type 0} (t : A → Bool) (xs : List A) (k : ℕ) (d : A) → every t xs ≡ true → k < length xs → t (getD xs k d) ≡ true
+every-at t [] k d h l = absurd (not-suc-le-zero l)
+every-at t (x ∷ xs) zero d h l = both-true (t x) (every t xs) h .0
+every-at t (x ∷ xs) (suc k) d h l = every-at t xs k d (both-true (t x) (every t xs) h .1) (le-of-suc-le-suc l)
+
+pub small-at : (cs : List ℤ) (k : ℕ) → Small cs → k < length cs → natAbs (cs ! k) < 65536
+small-at cs k h l = ltb-true _ 65536 (every-at (λ c. ltb (natAbs c) 65536) cs k (pos 0) h l)
+
+-- ---- the rows of a down filter
 
 -- the row of a fraction is one of the rows
 pub row-below : (n fraction : ℕ) → fraction < 65536 → 0 < n → fraction * n / 65536 < n
@@ -46,15 +59,13 @@ module _ (w n : ℕ) (cs : List ℤ) (p : 0 < w) (l : length cs ≡ 2 + w * n) w
 
 -- ---- the interpolation table
 
--- a test that every entry passes, the entry at k passes
-every-at : {A : Type 0} (t : A → Bool) (xs : List A) (k : ℕ) (d : A) → every t xs ≡ true → k < length xs → t (getD xs k d) ≡ true
-every-at t [] k d h l = absurd (not-suc-le-zero l)
-every-at t (x ∷ xs) zero d h l = both-true (t x) (every t xs) h .0
-every-at t (x ∷ xs) (suc k) d h l = every-at t xs k d (both-true (t x) (every t xs) h .1) (le-of-suc-le-suc l)
-
 pub frac-width : (k : ℕ) → k < 12 → length (getD silk-resampler-frac-FIR-12 k []) ≡ 4
 unfolding silk-resampler-frac-FIR-12
 frac-width k h = eqb-true _ 4 (every-at (λ row. eqb (length row) 4) silk-resampler-frac-FIR-12 k [] refl h)
+
+pub frac-small : (k : ℕ) → k < 12 → Small (getD silk-resampler-frac-FIR-12 k [])
+unfolding silk-resampler-frac-FIR-12
+frac-small k h = every-at (λ row. every (λ c. ltb (natAbs c) 65536) row) silk-resampler-frac-FIR-12 k [] refl h
 
 pub frac-mirrored : (fraction : ℕ) → let k = fraction * 12 / 65536 in
     mirrored silk-resampler-frac-FIR-12 fraction ≡ getD silk-resampler-frac-FIR-12 k [] ++ reverse (getD silk-resampler-frac-FIR-12 (11 - k) [])

@@ -10,7 +10,7 @@ use Rattle.fixed.specs.Choice.{if_then_else_}
 use Rattle.filters.specs.Lists.{tabulate, cut, carriedOn, _!_}
 use Rattle.fixed.specs.Fixed.{wrapped, times, narrowed}
 use Rattle.filters.specs.Rom as Rom
-use Rattle.filters.specs.Reader.{read, mirrored, outputs, sum}
+use Rattle.filters.specs.Reader.{read, mirrored, outputs, sum, Small}
 use Rattle.filters.specs.Run.{passOut, passEnd}
 use Rattle.filters.specs.declared.rates.Rates.{Rates}
 use Rattle.filters.specs.Stage.Ar2.{ar2, ar2End}
@@ -45,14 +45,16 @@ down-1/6 = filterOf 36 Rom.silk-Resampler-1-6-COEFS
 unfoldable pub rows : Filter → List (List ℤ)
 rows f = cut (f .order / 2) (drop 2 (f .coefs))
 
--- what a table must be for an order: two constants, then one to three rows of half the order, for orders above 18 in sixes
+-- what a table must be for an order: two constants, then one to three rows of half the order, for orders above 18 in threes;
+-- every coefficient small
 pub record Fitting (order rows : ℕ) (coefs : List ℤ) : Type 0 where
   pub least : 18 ≤ order
   pub most : order ≤ 36
-  pub sixes : 18 < order → order / 2 % 6 ≡ 0
+  pub threes : 18 < order → order / 2 % 3 ≡ 0
   pub entries : length coefs ≡ 2 + order / 2 * rows
   pub some : 0 < rows
   pub few : rows ≤ 3
+  pub small : Small coefs
 
 -- order 18: a row forward and its mirror backward, each product rounded down by itself
 unfoldable pub apart : Filter → ℕ → List ℤ → ℤ

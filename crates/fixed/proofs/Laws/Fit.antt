@@ -1,7 +1,7 @@
 -- Signed ranges, and reading a signed value back: what is stored, passed or returned at width w stands in a proof as
 -- `toZ w (ofZ w x)`, which is x where x fits. Assumes nothing.
 use mathlib.Core.Path.{_≡_, sym, _∙_, subst}
-use Prim.Native.Nat.{ℕ, _+_, _^_, _<_, _≤_}
+use Prim.Native.Nat.{ℕ, _+_, _*_, _^_, _<_, _≤_}
 use native.Mathlib.Omega.{arith}
 use native.Mathlib.Nat as NatL
 use mathlib.Core.Bool.{true}
@@ -86,36 +86,30 @@ unfolding P N
 abs-fits w (pos n) h = omega (arith, h .sfits)
 abs-fits w (negsuc n) h = omega (arith, h .sfits)
 
--- the product of two samples fits a word
-pub mul16-fits : (x y : ℤ) → SFits w16 x → SFits w16 y → SFits w32 (x *ℤ y)
-mul16-fits x y f g =
-    let a = fits-pn w16 x f in
-    let b = fits-pn w16 y g in
-    let p = p-mul x y in
-    let n = n-mul x y in
-    let u = NatL.mul-le-mul {n₁ = P x + N x} {m₁ = P y + N y} {n₂ = 32768} {m₂ = 32768} (abs-fits w16 x f) (abs-fits w16 y g) in
-    in-range w32 (x *ℤ y) (omega arith) (omega arith)
-
 -- ---- products with a coefficient
 
--- |c| < 65536 and y a word: |c y| ≤ 65535 × 2^31
-mul-bound : (c y : ℤ) → natAbs c < 65536 → SFits w32 y → P (c *ℤ y) + N (c *ℤ y) ≤ 140735340871680
-mul-bound c y h f =
+-- |c| < 65536 and |y| ≤ 2^b: |c y| ≤ 65535 × 2^b
+mul-bound : (w : Width) (c y : ℤ) → natAbs c < 65536 → SFits w y → P (c *ℤ y) + N (c *ℤ y) ≤ 65535 * 2 ^ hbits w
+mul-bound w c y h f =
     omega (
       arith,
       p-mul c y,
       n-mul c y,
-      NatL.mul-le-mul {n₁ = P c + N c} {m₁ = P y + N y} {n₂ = 65535} {m₂ = 2147483648} (omega (arith, pn-abs c)) (abs-fits w32 y f),
+      NatL.mul-le-mul {n₁ = P c + N c} {m₁ = P y + N y} {n₂ = 65535} {m₂ = 2 ^ hbits w} (omega (arith, pn-abs c)) (abs-fits w y f),
     )
 
+-- with a word, and with a sample
 pub mul-fits : (c y : ℤ) → natAbs c < 65536 → SFits w32 y → SFits w64 (c *ℤ y)
-mul-fits c y h f = let b = mul-bound c y h f in in-range w64 (c *ℤ y) (omega arith) (omega arith)
+mul-fits c y h f = let b = mul-bound w32 c y h f in in-range w64 (c *ℤ y) (omega arith) (omega arith)
+
+pub sample-fits : (c x : ℤ) → natAbs c < 65536 → SFits w16 x → SFits w32 (c *ℤ x)
+sample-fits c x h f = let b = mul-bound w16 c x h f in in-range w32 (c *ℤ x) (omega arith) (omega arith)
 
 pub times-fits : (c y : ℤ) → natAbs c < 65536 → SFits w32 y → SFits w32 (times c y)
 unfolding times
 times-fits c y h f =
     let b = shr-floor (c *ℤ y) 65536 (omega arith) in
-    let g = mul-bound c y h f in
+    let g = mul-bound w32 c y h f in
     in-range w32 (shrZ (c *ℤ y) 65536) (omega arith) (omega arith)
 
 -- what is small enough: whatever lies between the two tests, and an i16

@@ -1,44 +1,22 @@
--- `fixed::mul_q16` meets its contract: the product fits 64 bits and its floor fits the word, since |c| < 65536.
+-- `fixed::mul_q16` meets its contract: widening keeps the coefficient, and its bound with it.
 -- Assumes nothing.
 use borrow.Author.Needs.{needs}
-use mathlib.Core.Path.{_≡_, ap}
-use lib.IntN.{ℤ, _*ℤ_}
-use lib.Signed.{shrZ}
 use mir.Syntax.{w32, w64}
-use mir.Val.{SFits}
-use Rattle.fixed.specs.Fixed.{times}
-use Rattle.fixed.proofs.Laws.Fit.{at, widen, rd, cast, fit, mul-fits, times-fits}
+use Rattle.fixed.proofs.Laws.Fit.{back, cast, widen}
 use Rattle.fixed.proofs.mul_q16.Statement.{statement}
 use Rattle.fixed.proofs.mul_q16.Tie as tie
 
-cast-result : tie.Need-cast-result
-cast-result c = search (needs, widen)
+cast-mul-wide : tie.Need-cast-mul-wide
+cast-mul-wide c = search (needs, widen)
 
-cast-result-2 : tie.Need-cast-result-2
-cast-result-2 c = search (needs, widen)
-
-module _ (c : tie.Start) where
-  abbrev wide : ℤ
-  wide = at w64 (at w32 (c .args .c)) *ℤ at w64 (at w32 (c .args .y))
-
-  product : wide ≡ c .args .c *ℤ c .args .y
-  product = λ i. cast w32 w64 tt (c .fits .c) i *ℤ cast w32 w64 tt (c .fits .y) i
-
-  good : SFits w32 (times (c .args .c) (c .args .y))
-  good = times-fits (c .args .c) (c .args .y) (c .pre) (c .fits .y)
-
-  value : at w64 (shrZ (at w64 wide) 65536) ≡ times (c .args .c) (c .args .y)
-  unfolding times
-  value = rd (ap (λ v. shrZ v 65536) (rd product (mul-fits (c .args .c) (c .args .y) (c .pre) (c .fits .y)))) (widen good)
-
-mul-result : tie.Need-mul-result
-mul-result c = fit (product c) (mul-fits (c .args .c) (c .args .y) (c .pre) (c .fits .y))
-
-cast-result-3 : tie.Need-cast-result-3
-cast-result-3 c = fit (value c) (good c)
+mul-wide-requires : tie.Need-mul-wide-requires
+mul-wide-requires c κs = rw (cast w32 w64 tt (c .fits .c)) (c .pre)
 
 returns : tie.Need-returns
-returns c = rd (value c) (good c)
+returns c =
+    let s = c .before in
+    let m = c .mul-wide in
+    cc (back w32 (m .result) (m .ok), cast w32 w64 tt (s .fits .c), back w32 (s .args .y) (s .fits .y .sfits))
 
 pub mul-q16-spec : {M : Type 1} → statement M
-mul-q16-spec = tie.close (tie.spec cast-result cast-result-2 mul-result cast-result-3 returns)
+mul-q16-spec = tie.close (tie.spec cast-mul-wide mul-wide-requires returns)

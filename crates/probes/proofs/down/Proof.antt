@@ -15,7 +15,7 @@ silk-resampler-private-down-FIR-requires : tie.Need-silk-resampler-private-down-
 silk-resampler-private-down-FIR-requires c κs =
     let e = c .before .before .before in
     let p = e .before .before .pre in
-    ((p .0, p .1, p .3), e .before .fits2 .ensures (not-false _ (e .if1 .left)))
+    ((p .0, p .1, p .2, p .4), e .before .fits2 .ensures (not-false _ (e .if1 .left)))
 
 same-length : tie.Need-same-length
 same-length c = search needs

@@ -44,7 +44,7 @@ abbrev up-test : Pair → Bool
 up-test p = not (up? (path p)) || (steady? (2 * p .inKhz) (ratesOf p) && leb (p .inKhz) 16)
 
 abbrev down-test : Pair → Bool
-down-test p = not (down? (path p)) || steady? (p .inKhz) (ratesOf p)
+down-test p = not (down? (path p)) || (steady? (p .inKhz) (ratesOf p) && leb (p .outKhz) 16)
 
 up-passes : each up-test ≡ true
 unfolding path filter up2x raised increment
@@ -68,8 +68,11 @@ steady-up p h e =
     let (a, b) = both-true (steady? (2 * p .inKhz) (ratesOf p)) _ t in
     (steady _ _ a, leb-true _ 16 b)
 
-pub steady-down : (p : Pair) (g : Filter) → supported p ≡ true → path p ≡ down g → Steady (p .inKhz) (ratesOf p)
-steady-down p g h e = steady _ _ (asked-for (down? (path p)) _ (ap down? e) (of-each down-test down-passes p h))
+pub steady-down : (p : Pair) (g : Filter) → supported p ≡ true → path p ≡ down g → Steady (p .inKhz) (ratesOf p) × (p .outKhz ≤ 16)
+steady-down p g h e =
+    let t = asked-for (down? (path p)) _ (ap down? e) (of-each down-test down-passes p h) in
+    let (a, b) = both-true (steady? (p .inKhz) (ratesOf p)) _ t in
+    (steady _ _ a, leb-true _ 16 b)
 
 -- ---- the filter of a ratio, once the ratios before it are ruled out
 

@@ -62,11 +62,10 @@ pub read-length : {B : Type 0} (f : ℕ → List ℤ → B) (increment n : ℕ) 
 unfolding read
 read-length f increment n buf = tabulate-length 0 n _
 
--- ten milliseconds make at most 480 outputs
-pub whole-count : (num : ℕ) (r : Rates) (n : ℕ) → Steady num r → n ≤ 10 * r .inKhz → outputs r n ≤ 480
-whole-count num r n s l =
-    let few = le-of-mul-le-mul-right {m = n / r .inKhz} {n = 10} (omega (arith, div-add-mod' n (r .inKhz))) (s .some) in
-    omega (arith, mul-le-mul few (s .fewOut))
+-- ten milliseconds make at most ten times the outputs of one
+pub whole-count : (r : Rates) (n most : ℕ) → 0 < r .inKhz → r .outKhz ≤ most → n ≤ 10 * r .inKhz → outputs r n ≤ 10 * most
+whole-count r n most p o l =
+    mul-le-mul (le-of-mul-le-mul-right {m = n / r .inKhz} {n = 10} (omega (arith, div-add-mod' n (r .inKhz))) p) o
 
 -- the outputs of m milliseconds, at most ten, begin before their samples end
 steady-reach : (num : ℕ) (r : Rates) → Steady num r → (m : ℕ) → m ≤ 10

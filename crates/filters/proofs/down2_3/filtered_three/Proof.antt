@@ -19,21 +19,21 @@ filtered-requires c κs = search needs
 
 moved-requires : tie.Need-moved-requires
 unfolding silk-Resampler-2-3-COEFS-LQ
-moved-requires c κs = rw (c .before .pre) (omega arith)
+moved-requires c κs = rw (c .before .pre) (omega arith, omega arith, omega arith)
 
 filtered-requires-2 : tie.Need-filtered-requires-2
 filtered-requires-2 c κs = search needs
 
 moved-requires-2 : tie.Need-moved-requires-2
 unfolding silk-Resampler-2-3-COEFS-LQ
-moved-requires-2 c κs = rw (c .before .before .before .pre) (omega arith)
+moved-requires-2 c κs = rw (c .before .before .before .pre) (omega arith, omega arith, omega arith)
 
 filtered-requires-3 : tie.Need-filtered-requires-3
 filtered-requires-3 c κs = search needs
 
 moved-requires-3 : tie.Need-moved-requires-3
 unfolding silk-Resampler-2-3-COEFS-LQ
-moved-requires-3 c κs = rw (c .before .before .before .before .before .pre) (omega arith)
+moved-requires-3 c κs = rw (c .before .before .before .before .before .pre) (omega arith, omega arith, omega arith)
 
 element-copy-out-t15 : tie.Need-element-copy-out-t15
 element-copy-out-t15 c = search needs

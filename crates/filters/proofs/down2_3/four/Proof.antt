@@ -1,21 +1,24 @@
 -- `filters::down2_3::four` meets its contract: four products, added up in the definition's order, and narrowed.
 -- Assumes nothing.
-use mathlib.Core.Path.{_∙_, ap}
+use mathlib.Core.Path.{refl, _∙_, ap}
 use mathlib.Core.List.{[], _∷_}
 use borrow.Author.Needs.{needs}
 use denote.Ref.{now}
 use lib.IntN.{pos, _+ℤ_}
-use mir.Syntax.{w16, w32}
+use mir.Syntax.{w16, w32, w64}
 use Rattle.fixed.specs.Fixed.{wrapped, times, narrowed}
 use Rattle.filters.specs.Lists.{_!_}
 use Rattle.filters.specs.Reader.{sum}
+use Rattle.filters.specs.Rom.{silk-Resampler-2-3-COEFS-LQ}
 use Rattle.filters.specs.Stage.Down2_3.{tapped}
 use Rattle.fixed.proofs.Laws.Fit.{back}
+use Rattle.filters.proofs.Laws.Taps.{small-at}
 use Rattle.filters.proofs.down2_3.four.Statement.{statement}
 use Rattle.filters.proofs.down2_3.four.Tie as tie
 
 three-requires : tie.Need-three-requires
-three-requires c κs = search needs
+unfolding silk-Resampler-2-3-COEFS-LQ
+three-requires c κs = let s = c .before in rw (s .pre .4) (s .pre .0, s .pre .1, s .pre .2, refl)
 
 mul-tap : tie.Need-mul-tap
 mul-tap c = search needs
@@ -24,7 +27,11 @@ element-copy-out-tap : tie.Need-element-copy-out-tap
 element-copy-out-tap c = search needs
 
 tap-requires : tie.Need-tap-requires
-tap-requires c κs = search needs
+unfolding silk-Resampler-2-3-COEFS-LQ
+tap-requires c κs =
+    let s = c .before .before .before in
+    let t = now (s .args .t) in
+    rw (back w64 (t ! s .args .c3) (c .tap-arg .given), s .pre .4) (small-at silk-Resampler-2-3-COEFS-LQ (s .args .c3) refl (s .pre .3))
 
 narrow-requires : tie.Need-narrow-requires
 narrow-requires c κs = search needs
@@ -39,7 +46,7 @@ returns c =
     let a = start .args in
     let f = start .fits in
     let t = now (a .t) in
-    let c3 = back w16 (t ! a .c3) (r .tap-arg .given) in
+    let c3 = back w64 (t ! a .c3) (r .tap-arg .given) in
     let y0 = back w32 (a .y0) (f .y0 .sfits) in
     let y1 = back w32 (a .y1) (f .y1 .sfits) in
     let y2 = back w32 (a .y2) (f .y2 .sfits) in

@@ -2,6 +2,7 @@
 -- Assumes nothing.
 use mathlib.Core.Path.{sym, _∙_}
 use mathlib.Core.List.{[], _∷_}
+use native.Mathlib.Omega.{arith}
 use borrow.Author.Needs.{needs}
 use mir.Syntax.{w16, w32}
 use Rattle.fixed.specs.Fixed.{narrowed}
@@ -37,10 +38,10 @@ element-copy-out-four-2 : tie.Need-element-copy-out-four-2
 element-copy-out-four-2 c = search needs
 
 four-requires : tie.Need-four-requires
-four-requires c κs = search needs
+four-requires c κs = (omega arith, omega arith, omega arith, omega arith, c .before .before .before .before .before .before .before .before .pre .1)
 
 four-requires-2 : tie.Need-four-requires-2
-four-requires-2 c κs = search needs
+four-requires-2 c κs = (omega arith, omega arith, omega arith, omega arith, c .before .before .before .before .before .before .before .before .before .before .pre .1)
 
 returns : tie.Need-returns
 unfolding silk-Resampler-2-3-COEFS-LQ tapped sum

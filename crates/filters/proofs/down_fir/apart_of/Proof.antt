@@ -36,7 +36,7 @@ add-nine-forward : tie.Need-add-nine-forward
 add-nine-forward c = let b = row-below (c .args .rows) (c .args .fraction) (c .pre .3) (c .pre .1) in search needs
 
 nine-forward-requires : tie.Need-nine-forward-requires
-nine-forward-requires c κs = let b = row-below (c .args .rows) (c .args .fraction) (c .pre .3) (c .pre .1) in (omega arith, omega arith)
+nine-forward-requires c κs = let b = row-below (c .args .rows) (c .args .fraction) (c .pre .3) (c .pre .1) in (omega arith, omega arith, c .pre .5)
 
 mul-nine-backward : tie.Need-mul-nine-backward
 mul-nine-backward c = search needs

@@ -4,7 +4,6 @@ use mathlib.Core.Path.{_≡_, sym, _∙_}
 use Prim.Native.Nat.{_/_}
 use native.Mathlib.Nat.{mul-le-mul-left}
 use native.Mathlib.Omega.{arith}
-use borrow.Author.Needs.{needs}
 use borrow.Author.Tests.{lt-ltb}
 use denote.Ref.{now}
 use lib.IntN.{pos}
@@ -21,7 +20,7 @@ apart-of-requires : tie.Need-apart-of-requires
 apart-of-requires c κs =
     let p = c .before .pre in
     let e : c .before .args .order ≡ 18 = omega arith in
-    (rw e at (p .0 .entries), p .0 .some, p .0 .few, p .1 .0, omega arith)
+    (rw e at (p .0 .entries), p .0 .some, p .0 .few, p .1 .0, omega arith, p .0 .small)
 
 returns : tie.Need-returns
 unfolding filtered
@@ -34,7 +33,7 @@ half-inward-requires c κs =
     let p = c .before .pre in
     let a = c .before .args in
     let m = mul-le-mul-left (a .order / 2) (p .0 .some) in
-    (omega arith, p .1 .1, p .0 .sixes (c .if1 .left))
+    (omega arith, p .1 .1, p .0 .threes (c .if1 .left), p .0 .small)
 
 returns-2 : tie.Need-returns-2
 unfolding filtered inPairs rows

@@ -10,12 +10,12 @@ use lib.IntN.{ℤ, pos, _*ℤ_}
 use lib.ListN.{length, getD}
 use mir.Syntax.{w32}
 use Rattle.filters.specs.Lists.{_!_}
-use Rattle.filters.specs.Reader.{sum}
+use Rattle.filters.specs.Reader.{sum, Small}
 use Rattle.filters.specs.Stage.IirFir.{interpolation}
 use Rattle.fixed.proofs.Laws.Fit.{back}
 use Rattle.filters.proofs.Laws.Lists.{all-four}
 use Rattle.filters.proofs.Laws.Dot.{eight-taps}
-use Rattle.filters.proofs.Laws.Taps.{frac-width, frac-mirrored}
+use Rattle.filters.proofs.Laws.Taps.{frac-width, frac-small, frac-mirrored}
 use Rattle.filters.proofs.iir_fir.output.Statement.{statement}
 use Rattle.filters.proofs.iir_fir.output.Tie as tie
 
@@ -28,6 +28,9 @@ module _ (s : tie.Start) where
 
   width : (k : ℕ) → k < 12 → length (at k) ≡ 4
   width k h = rw (s .pre .0) (frac-width k h)
+
+  small : (k : ℕ) → k < 12 → Small (at k)
+  small k h = rw (s .pre .0) (frac-small k h)
 
 mul-k : tie.Need-mul-k
 mul-k c = search needs
@@ -48,16 +51,16 @@ element-copy-out-mirror : tie.Need-element-copy-out-mirror
 element-copy-out-mirror c = search needs
 
 two-requires : tie.Need-two-requires
-two-requires c κs = let s = c .before .before in (width s _ (omega arith), omega arith, omega arith, omega (arith, s .pre .2))
+two-requires c κs = let s = c .before .before in (width s _ (omega arith), omega arith, omega arith, omega (arith, s .pre .2), small s _ (omega arith))
 
 two-requires-2 : tie.Need-two-requires-2
-two-requires-2 c κs = let s = c .before .before .before in (width s _ (omega arith), omega arith, omega arith, omega (arith, s .pre .2))
+two-requires-2 c κs = let s = c .before .before .before in (width s _ (omega arith), omega arith, omega arith, omega (arith, s .pre .2), small s _ (omega arith))
 
 two-requires-3 : tie.Need-two-requires-3
-two-requires-3 c κs = let s = c .before .before .before .before in (width s _ (omega arith), omega arith, omega arith, omega (arith, s .pre .2))
+two-requires-3 c κs = let s = c .before .before .before .before in (width s _ (omega arith), omega arith, omega arith, omega (arith, s .pre .2), small s _ (omega arith))
 
 two-requires-4 : tie.Need-two-requires-4
-two-requires-4 c κs = let s = c .before .before .before .before .before in (width s _ (omega arith), omega arith, omega arith, omega (arith, s .pre .2))
+two-requires-4 c κs = let s = c .before .before .before .before .before in (width s _ (omega arith), omega arith, omega arith, omega (arith, s .pre .2), small s _ (omega arith))
 
 returns : tie.Need-returns
 unfolding interpolation

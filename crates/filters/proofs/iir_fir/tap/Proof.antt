@@ -1,25 +1,22 @@
--- `filters::iir_fir::tap` meets its contract: the product of two samples fits the word, and the sum wraps.
+-- `filters::iir_fir::tap` meets its contract: the product of a small tap and a sample fits the word, and the sum wraps.
 -- Assumes nothing.
 use mathlib.Core.Path.{_≡_, _∙_}
 use borrow.Author.Needs.{needs}
 use lib.IntN.{_+ℤ_, _*ℤ_}
 use mir.Syntax.{w16, w32}
 use Rattle.fixed.specs.Fixed.{wrapped}
-use Rattle.fixed.proofs.Laws.Fit.{at, back, rd, fit, cast, widen16, mul16-fits}
+use Rattle.fixed.proofs.Laws.Fit.{at, back, rd, fit, cast, widen16, sample-fits}
 use Rattle.filters.proofs.iir_fir.tap.Statement.{statement}
 use Rattle.filters.proofs.iir_fir.tap.Tie as tie
 
-product : (c : tie.Start) → at w32 (at w16 (c .args .c)) *ℤ at w32 (at w16 (c .args .x)) ≡ c .args .c *ℤ c .args .x
-product c = λ i. cast w16 w32 tt (c .fits .c) i *ℤ cast w16 w32 tt (c .fits .x) i
+product : (c : tie.Start) → at w32 (c .args .c) *ℤ at w32 (at w16 (c .args .x)) ≡ c .args .c *ℤ c .args .x
+product c = λ i. back w32 (c .args .c) (c .fits .c .sfits) i *ℤ cast w16 w32 tt (c .fits .x) i
 
 cast-add : tie.Need-cast-add
 cast-add c = search (needs, widen16)
 
-cast-add-2 : tie.Need-cast-add-2
-cast-add-2 c = search (needs, widen16)
-
 mul-add : tie.Need-mul-add
-mul-add c = fit (product c) (mul16-fits (c .args .c) (c .args .x) (c .fits .c) (c .fits .x))
+mul-add c = fit (product c) (sample-fits (c .args .c) (c .args .x) (c .pre) (c .fits .x))
 
 add-requires : tie.Need-add-requires
 add-requires c κs = search needs
@@ -28,8 +25,8 @@ returns : tie.Need-returns
 returns c =
     let s = c .before in
     let acc = back w32 (s .args .acc) (s .fits .acc .sfits) in
-    let p = rd (product s) (mul16-fits (s .args .c) (s .args .x) (s .fits .c) (s .fits .x)) in
+    let p = rd (product s) (sample-fits (s .args .c) (s .args .x) (s .pre) (s .fits .x)) in
     back w32 (c .add .result) (c .add .ok) ∙ c .add .ensures ∙ (λ i. wrapped (acc i +ℤ p i))
 
 pub tap-spec : {M : Type 1} → statement M
-tap-spec = tie.close (tie.spec cast-add cast-add-2 mul-add add-requires returns)
+tap-spec = tie.close (tie.spec cast-add mul-add add-requires returns)

@@ -20,7 +20,7 @@ use Rattle.filters.proofs.taps.half_inward.Tie as tie
 
 abbrev Inv-loop : tie.InvT-loop
 Inv-loop cs c ys order half acc₀ k₀ acc k =
-    (half ≡ order / 2) × (half % 6 ≡ 0) × (k % 6 ≡ 0) × (k ≤ half)
+    (half ≡ order / 2) × (half % 3 ≡ 0) × (k % 3 ≡ 0) × (k ≤ half)
     × (toZ w32 acc ≡ sum times (pos 0) (take k (drop c cs)) (outerSums order ys))
 
 abbrev μ-loop : tie.MeasureT-loop
@@ -36,18 +36,6 @@ add-inward c = search needs
 inward-requires : tie.Need-inward-requires Inv-loop μ-loop
 inward-requires c κs = search needs
 
-add-inward-2 : tie.Need-add-inward-2 Inv-loop μ-loop
-add-inward-2 c = search needs
-
-add-inward-3 : tie.Need-add-inward-3 Inv-loop μ-loop
-add-inward-3 c = search needs
-
-add-inward-4 : tie.Need-add-inward-4 Inv-loop μ-loop
-add-inward-4 c = search needs
-
-inward-requires-2 : tie.Need-inward-requires-2 Inv-loop μ-loop
-inward-requires-2 c κs = search needs
-
 add-k : tie.Need-add-k Inv-loop μ-loop
 add-k c = search needs
 
@@ -56,24 +44,15 @@ loop-less c = search needs
 
 loop-again : tie.Need-loop-again Inv-loop μ-loop
 loop-again c =
-    let first = c .before in
-    let l = first .before .before .loop in
-    let a = first .before .before .before .args in
+    let l = c .before .before .loop in
+    let a = c .before .before .before .args in
     let cs = now (a .cs) in
     let outer = outerSums (a .order) (now (a .ys)) in
-    let size = outerSums-length (a .order) (now (a .ys)) in
     let e : l .k ≡ 0 + l .k = omega arith in
-    let f : l .k + 3 ≡ 0 + (l .k + 3) = omega arith in
-    let p : a .c + l .k + 3 ≡ a .c + (l .k + 3) = omega arith in
-    let six : l .k + 3 + 3 ≡ l .k + 6 = omega arith in
-    let one = back w32 (first .inward .result) (first .inward .ok) ∙ first .inward .ensures
+    let more = back w32 (c .inward .result) (c .inward .ok) ∙ c .inward .ensures
     ∙ (λ i. sum times (l .inv .4 i) (take 3 (drop (a .c + l .k) cs)) (drop (e i) outer))
-    ∙ sum-more times (pos 0) cs outer (a .c) 0 (l .k) 3 (omega arith) (omega (arith, size)) in
-    let two = back w32 (c .inward2 .result) (c .inward2 .ok) ∙ c .inward2 .ensures
-    ∙ (λ i. sum times (one i) (take 3 (drop (p i) cs)) (drop (f i) outer))
-    ∙ sum-more times (pos 0) cs outer (a .c) 0 (l .k + 3) 3 (omega arith) (omega (arith, size))
-    ∙ (λ i. sum times (pos 0) (take (six i) (drop (a .c) cs)) outer) in
-    (refl, l .inv .1, omega arith, omega arith, two)
+    ∙ sum-more times (pos 0) cs outer (a .c) 0 (l .k) 3 (omega arith) (omega (arith, outerSums-length (a .order) (now (a .ys)))) in
+    (refl, l .inv .1, omega arith, omega arith, more)
 
 returns : tie.Need-returns Inv-loop μ-loop
 returns c =
@@ -91,10 +70,6 @@ half-inward-spec =
     loop-holds
     add-inward
     inward-requires
-    add-inward-2
-    add-inward-3
-    add-inward-4
-    inward-requires-2
     add-k
     loop-less
     loop-again

@@ -4,11 +4,12 @@ use mathlib.Core.Path.{_∙_}
 use borrow.Author.Needs.{needs}
 use denote.Ref.{now}
 use lib.IntN.{_+ℤ_}
-use mir.Syntax.{w16, w32}
+use mir.Syntax.{w32, w64}
 use Rattle.fixed.specs.Fixed.{wrapped, times}
 use Rattle.filters.specs.Lists.{_!_}
 use Rattle.filters.specs.Reader.{sum}
 use Rattle.fixed.proofs.Laws.Fit.{back}
+use Rattle.filters.proofs.Laws.Taps.{small-at}
 use Rattle.filters.proofs.taps.three.Statement.{statement}
 use Rattle.filters.proofs.taps.three.Tie as tie
 
@@ -19,7 +20,7 @@ shared-slice-copy-out-tap : tie.Need-shared-slice-copy-out-tap
 shared-slice-copy-out-tap c = search needs
 
 tap-requires : tie.Need-tap-requires
-tap-requires c κs = search needs
+tap-requires c κs = let s = c .before in rw (back w64 (now (s .args .cs) ! s .args .c0) (c .tap-arg .given)) (small-at (now (s .args .cs)) (s .args .c0) (s .pre .3) (s .pre .0))
 
 mul-tap-2 : tie.Need-mul-tap-2
 mul-tap-2 c = search needs
@@ -28,7 +29,7 @@ shared-slice-copy-out-tap-2 : tie.Need-shared-slice-copy-out-tap-2
 shared-slice-copy-out-tap-2 c = search needs
 
 tap-requires-2 : tie.Need-tap-requires-2
-tap-requires-2 c κs = search needs
+tap-requires-2 c κs = let s = c .before .before .before in rw (back w64 (now (s .args .cs) ! s .args .c1) (c .tap-arg2 .given)) (small-at (now (s .args .cs)) (s .args .c1) (s .pre .3) (s .pre .1))
 
 mul-tap-3 : tie.Need-mul-tap-3
 mul-tap-3 c = search needs
@@ -37,7 +38,7 @@ shared-slice-copy-out-tap-3 : tie.Need-shared-slice-copy-out-tap-3
 shared-slice-copy-out-tap-3 c = search needs
 
 tap-requires-3 : tie.Need-tap-requires-3
-tap-requires-3 c κs = search needs
+tap-requires-3 c κs = let s = c .before .before .before .before .before in rw (back w64 (now (s .args .cs) ! s .args .c2) (c .tap-arg3 .given)) (small-at (now (s .args .cs)) (s .args .c2) (s .pre .3) (s .pre .2))
 
 returns : tie.Need-returns
 unfolding sum
@@ -51,9 +52,9 @@ returns c =
     let a = start .args in
     let cs = now (a .cs) in
     let acc = back w32 (a .acc) (start .fits .acc .sfits) in
-    let c0 = back w16 (cs ! a .c0) (r0 .tap-arg .given) in
-    let c1 = back w16 (cs ! a .c1) (r1 .tap-arg2 .given) in
-    let c2 = back w16 (cs ! a .c2) (r2 .tap-arg3 .given) in
+    let c0 = back w64 (cs ! a .c0) (r0 .tap-arg .given) in
+    let c1 = back w64 (cs ! a .c1) (r1 .tap-arg2 .given) in
+    let c2 = back w64 (cs ! a .c2) (r2 .tap-arg3 .given) in
     let y0 = back w32 (a .y0) (start .fits .y0 .sfits) in
     let y1 = back w32 (a .y1) (start .fits .y1 .sfits) in
     let y2 = back w32 (a .y2) (start .fits .y2 .sfits) in

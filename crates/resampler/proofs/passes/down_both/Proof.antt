@@ -36,13 +36,13 @@ silk-resampler-private-down-FIR-requires-2 c κs =
     let first = o .before in
     let s = first .before .before in
     let r = s .args .r in
-    let (fits, steady, many) = s .pre .0 in
+    let (fits, steady, little, many) = s .pre .0 in
     let t = s .pre .1 in
     let q = first .silk-resampler-private-down-FIR .result .words in
     let live = take (s .args .order) (q .fir) in
     let few = padded-length 36 live (omega (arith, length-take (s .args .order) (q .fir), fits .most)) in
     let zeros = first .silk-resampler-private-down-FIR .ensures .1 .1 in
-    ((fits, steady, ap length zeros ∙ few), (t .whole, rest-room r (steady .some) t (first .silk-resampler-private-down-FIR .last .1 .1 .1 .1 .1 .0) (o .out .given)))
+    ((fits, steady, little, ap length zeros ∙ few), (t .whole, rest-room r (steady .some) t (first .silk-resampler-private-down-FIR .last .1 .1 .1 .1 .1 .0) (o .out .given)))
 
 same-length : tie.Need-same-length
 same-length c = search needs

@@ -17,6 +17,7 @@ use Rattle.filters.specs.Stage.Ar2.{ar2}
 use Rattle.filters.specs.Stage.DownFir.{filterOf, fir, downBatch, downNext, downFir, downFirCarried}
 use Rattle.filters.proofs.Laws.Lengths.{ar2-length}
 use Rattle.filters.proofs.Laws.Lists.{take-padded, last-part}
+use Rattle.filters.proofs.Laws.Taps.{small-at}
 use Rattle.stages.proofs.Laws.Loop.{over-front}
 use Rattle.stages.proofs.Laws.Reading.{whole-reach, whole-count}
 use Rattle.stages.proofs.down_fir.batch.Statement.{statement}
@@ -73,7 +74,8 @@ slice-aggregate-fill-2 c = sym (carried-length (c .before .before .before .befor
 fill-requires : tie.Need-fill-requires
 fill-requires c κs =
     let s = c .before .before .before .before in
-    (omega (arith, carried-length s), omega arith)
+    let f = s .pre .0 .0 in
+    (omega (arith, carried-length s), omega arith, small-at (now (s .args .cs)) 0 (f .small) (omega arith), small-at (now (s .args .cs)) 1 (f .small) (omega arith))
 
 div-written : tie.Need-div-written
 div-written c = search needs
@@ -93,7 +95,7 @@ read-requires c κs =
     let s = start f in
     let l = ap length (front f) ∙ both-length s in
     let e : order s + n s - order s ≡ n s = omega arith in
-    (s .pre .0 .0, ((omega arith, rw (l, e) (reach s)), (s .pre .0 .1 .small, omega arith, whole-count _ (s .args .r) (n s) (s .pre .0 .1) (s .pre .1 .1), s .pre .1 .2)))
+    (s .pre .0 .0, ((omega arith, rw (l, e) (reach s)), (s .pre .0 .1 .small, omega arith, whole-count (s .args .r) (n s) 16 (s .pre .0 .1 .some) (s .pre .0 .2) (s .pre .1 .1), s .pre .1 .2)))
 
 mul-kept : tie.Need-mul-kept
 mul-kept c = search needs

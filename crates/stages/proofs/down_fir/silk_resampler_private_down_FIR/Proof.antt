@@ -126,7 +126,7 @@ batch-requires c κs =
     let e = n .least .result in
     let t = n .before .loop-test .taken in
     let room = ms-room _ (s n .pre .0 .1 .some) _ _ (each n) e (count n) t (so-far n) in (
-      (p .0 .0, p .0 .1, l .inv .2),
+      (p .0 .0, p .0 .1, p .0 .2, l .inv .2),
       (
         ms-whole _ (s n .pre .0 .1 .some) _ _ (each n) e (count n) t (so-far n),
         ms-few _ (s n .pre .0 .1 .some) _ _ (each n) e (count n) t (so-far n),

@@ -83,7 +83,7 @@ read-requires c κs =
     let s = start f in
     let l = ap length (front f) ∙ both-length s in
     let e : 8 + n s - 8 ≡ n s = omega arith in
-    (refl, ((omega arith, rw (l, e) (reach s)), (s .pre .0 .0 .small, omega arith, whole-count _ (s .args .r) (length (now (s .args .input))) (s .pre .0 .0) (s .pre .1 .1), s .pre .1 .2)))
+    (refl, ((omega arith, rw (l, e) (reach s)), (s .pre .0 .0 .small, omega arith, whole-count (s .args .r) (length (now (s .args .input))) 48 (s .pre .0 .0 .some) (s .pre .0 .0 .fewOut) (s .pre .1 .1), s .pre .1 .2)))
 
 mul-kept : tie.Need-mul-kept
 mul-kept c = search needs
