@@ -1,4 +1,4 @@
-# What people do here. `make test` is the gate; it needs the Rattle kit (`rt`) and nothing else.
+# What people do here. `make test` is the gate; it needs the Rattle kit (`rt`), cc, rustc and cargo.
 .PHONY: run test lib install bindings suite answers compare bench distance
 
 PREFIX ?= /usr/local
