@@ -1,7 +1,6 @@
 -- Distances between whole numbers and fractions, lists side by side, and samples. Assumes nothing.
-use Rattle.std.specs.Prelude.{ℕ, ◌*◌, ◌<◌, Bool, List, [], ◌∷◌, ltb, ℤ, pos, negsuc, nat_abs, neg_ℤ, ◌-ℤ◌, ◌*ℤ◌}
+use Rattle.std.specs.Prelude.{if◌then◌else◌, ℕ, ◌*◌, ◌<◌, Bool, List, [], ◌∷◌, ltb, ℤ, pos, negsuc, nat_abs, neg_ℤ, ◌-ℤ◌, ◌*ℤ◌}
 use Rattle.std.specs.Int.Signed.{lt_z}
-use Rattle.fixed.specs.Choice.{if◌then◌else◌}
 use Rattle.distance.specs.Exact.{Fraction, fraction}
 
 -- y lies less than c from f: |y - f| < c, with both sides times what is under f

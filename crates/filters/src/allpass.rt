@@ -4,21 +4,21 @@ ghost use Rattle.std.specs.Prelude.{◌≡◌, [], ◌∷◌, ◌<◌, nat_abs};
 ghost use Rattle.filters.specs.Section.{scaled, section_out, section_next, even_out, odd_out, halves_next};
 
 // What a section puts out, and its word for the next input.
-#[derive(Drop)]
+#[derive(Clone, Copy)]
 pub struct Section {
     pub out: i32,
     pub word: i32,
 }
 
 // The words of the two sections, between two turns of a loop. Two fields: an array of two would travel in one register.
-#[derive(Drop)]
+#[derive(Clone, Copy)]
 pub struct Words {
     pub even: i32,
     pub odd: i32,
 }
 
 // What the two sections put out, and their words.
-#[derive(Drop)]
+#[derive(Clone, Copy)]
 pub struct Halves {
     pub even: i32,
     pub odd: i32,

@@ -7,7 +7,7 @@ use crate::allpass::Words;
 use crate::{allpass, rom};
 
 // Both bands' outputs for two samples, and the words after them.
-#[derive(Drop)]
+#[derive(Clone, Copy)]
 pub struct Banded {
     pub low: i16,
     pub high: i16,

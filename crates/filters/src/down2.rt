@@ -6,7 +6,7 @@ use crate::allpass::Words;
 use crate::{allpass, rom};
 
 // The two sections' outputs for two samples added up, and the words after them.
-#[derive(Drop)]
+#[derive(Clone, Copy)]
 pub struct Added {
     pub sum: i32,
     pub words: Words,

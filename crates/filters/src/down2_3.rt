@@ -11,13 +11,13 @@ use crate::taps;
 use fixed::ar2;
 
 // Six words, between two groups.
-#[derive(Drop)]
+#[derive(Clone, Copy)]
 pub struct Words {
     pub w: [i32; 6],
 }
 
 // What AR2 makes of three samples, and its words after them.
-#[derive(Drop)]
+#[derive(Clone, Copy)]
 struct Three {
     y0: i32,
     y1: i32,
@@ -27,7 +27,7 @@ struct Three {
 }
 
 // The two outputs for three samples, and the words after them.
-#[derive(Drop)]
+#[derive(Clone, Copy)]
 pub struct Group {
     pub first: i16,
     pub second: i16,

@@ -1,6 +1,8 @@
 // What the filters of the SILK resampler make of a sample, of two or three, or of as many as an output is read from: tables,
 // allpass sections, taps, and a step of each stage. No loop over lent samples. Each file has the name of the Rust's;
 // `allpass`, `rates` and `taps` are ours; the word arithmetic and AR2's step are the crate `fixed`.
+#![tactic(auto)]
+
 pub mod allpass;
 pub mod ana_filt_bank_1;
 pub mod down2;

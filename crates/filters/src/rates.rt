@@ -2,7 +2,7 @@
 ghost use Rattle.std.specs.Prelude.{◌≡◌, min};
 
 // The two rates, and how far apart two outputs are read, in 65536ths of a sample.
-#[derive(Drop)]
+#[derive(Clone, Copy)]
 pub struct Rates {
     pub inKhz: usize,
     pub outKhz: usize,

@@ -8,13 +8,13 @@ ghost use Rattle.filters.specs.Stage.Up2Hq.{up2_raw, up2_next};
 use crate::{allpass, rom};
 
 // Six words, between two samples or two parts of the input.
-#[derive(Drop)]
+#[derive(Clone, Copy)]
 pub struct Words {
     pub w: [i32; 6],
 }
 
 // What a chain puts out, and its three words.
-#[derive(Drop)]
+#[derive(Clone, Copy)]
 struct Chain {
     out: i32,
     s0: i32,
@@ -23,7 +23,7 @@ struct Chain {
 }
 
 // The two outputs for a sample, before narrowing, and the words after it.
-#[derive(Drop)]
+#[derive(Clone, Copy)]
 pub struct Doubled {
     pub even: i32,
     pub odd: i32,

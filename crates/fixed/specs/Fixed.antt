@@ -1,8 +1,7 @@
 -- The arithmetic of the stages, over the integers: sums that wrap, products rounded down, narrowing with clipping.
 -- Cited by src/fixed.rt. Assumes nothing.
-use Rattle.std.specs.Prelude.{ℕ, ◌-◌, ◌^◌, ℤ, pos, negsuc, ◌+ℤ◌, ◌-ℤ◌, ◌*ℤ◌}
+use Rattle.std.specs.Prelude.{if◌then◌else◌, ℕ, ◌-◌, ◌^◌, ℤ, pos, negsuc, ◌+ℤ◌, ◌-ℤ◌, ◌*ℤ◌}
 use Rattle.std.specs.Int.Signed.{shr_z, lt_z}
-use Rattle.fixed.specs.Choice.{if◌then◌else◌}
 
 -- floor (z / 2^n)
 abbrev pub shifted : ℤ → ℕ → ℤ

@@ -1,4 +1,3 @@
 -- What the word arithmetic is defined to do, and the step of AR2.
-pub mod Choice
 pub mod Fixed
 pub mod Ar2

@@ -4,7 +4,7 @@ ghost use Rattle.std.specs.Prelude.{◌≡◌, ◌<◌, ◌≤◌, nat_abs, leng
 ghost use Rattle.fixed.specs.Ar2.{◌!◌, ar2_out, ar2_after};
 
 // The words between two samples.
-#[derive(Drop)]
+#[derive(Clone, Copy)]
 pub struct Words {
     pub w: [i32; 2],
 }

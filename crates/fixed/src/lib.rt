@@ -1,5 +1,7 @@
 // The word arithmetic that every stage is made of: sums and differences that wrap, products rounded down, narrowing.
 // Meaning: specs/Fixed.antt. The Rust writes these out in place, as the reference code's macros do.
+#![tactic(auto)]
+
 ghost use Rattle.std.specs.Prelude.{◌≡◌, ◌<◌, pos, nat_abs, ◌+ℤ◌, ◌-ℤ◌, ◌*ℤ◌};
 ghost use Rattle.fixed.specs.Fixed.{wrapped, times, clipped, narrowed};
 

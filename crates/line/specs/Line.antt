@@ -1,6 +1,5 @@
 -- The program, from the bytes that it reads to those that it writes to both streams. Assumes nothing.
-use Rattle.std.specs.Prelude.{ℕ, ◌*◌, ◌/◌, ◌%◌, List, [], ◌++◌, eqb, ℤ, length, take, drop}
-use Rattle.fixed.specs.Choice.{if◌then◌else◌}
+use Rattle.std.specs.Prelude.{if◌then◌else◌, ℕ, ◌*◌, ◌/◌, ◌%◌, List, [], ◌++◌, eqb, ℤ, length, take, drop}
 use Rattle.filters.specs.Run.{pass_out, pass_end}
 use Rattle.resampler.specs.declared.Record.{Record}
 use Rattle.resampler.specs.Resample.{converted, after}

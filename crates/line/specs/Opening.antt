@@ -1,6 +1,5 @@
 -- Opening a line, from the three words that ask for it to what is written to both streams. Assumes nothing.
-use Rattle.std.specs.Prelude.{◌≡◌, ℕ, ◌+◌, ◌*◌, ◌-◌, Bool, true, false, ◌&&◌, List, [], ◌∷◌, leb, eqb}
-use Rattle.fixed.specs.Choice.{if◌then◌else◌}
+use Rattle.std.specs.Prelude.{if◌then◌else◌, ◌≡◌, ℕ, ◌+◌, ◌*◌, ◌-◌, Bool, true, false, ◌&&◌, List, [], ◌∷◌, leb, eqb}
 use Rattle.resampler.specs.Pairs.{Pair, pair, supported}
 use Rattle.resampler.specs.Record.{fresh}
 use Rattle.resampler.specs.Block.{block_of}

@@ -1,7 +1,6 @@
 -- Words and samples as bytes, the low one first, both ways. Assumes nothing.
-use Rattle.std.specs.Prelude.{ℕ, zero, suc, ◌+◌, ◌*◌, ◌-◌, ◌/◌, ◌%◌, ◌^◌, ltb, ℤ, pos, negsuc, take, drop}
+use Rattle.std.specs.Prelude.{if◌then◌else◌, ℕ, zero, suc, ◌+◌, ◌*◌, ◌-◌, ◌/◌, ◌%◌, ◌^◌, ltb, ℤ, pos, negsuc, take, drop}
 use mathlib.Core.List.{List, [], ◌∷◌, flat_map}
-use Rattle.fixed.specs.Choice.{if◌then◌else◌}
 use Rattle.filters.specs.Lists.{tabulate}
 
 -- k bytes of a number, the low one first, and the number of such bytes

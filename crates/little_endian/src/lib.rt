@@ -1,4 +1,6 @@
 // Words and samples as bytes, the low one first, both ways. Meaning: specs/Bytes.antt.
+#![tactic(auto)]
+
 ghost use Rattle.std.specs.Prelude.{◌+◌, ◌*◌, ◌^◌, ◌<◌, ◌≤◌, ◌≡◌, ◌++◌, length, take, drop};
 ghost use Rattle.little_endian.specs.Bytes as Bytes;
 

@@ -1,6 +1,8 @@
 // The stages that are no entry points as C functions, to be measured and compared from other languages. A slice is a pointer
 // and a length; words go in and out by value, in structs, for C passes no arrays so. What a stage would not take is refused
 // here: nothing is written, and the words come back as they were given.
+#![tactic(auto)]
+
 ghost use Rattle.std.specs.Prelude.{◌≡◌, true, ◌*◌, ◌%◌, ◌<◌, ◌≤◌, length};
 ghost use Rattle.filters.specs.Reader.{outputs, Steady};
 ghost use Rattle.filters.specs.Stage.DownFir.{Fitting};
@@ -9,14 +11,14 @@ use stages::{Rates, rom};
 
 // The words of the doubler.
 #[repr(C)]
-#[derive(Drop)]
+#[derive(Clone, Copy)]
 pub struct Six {
     pub w: [i32; 6],
 }
 
 // Of a down filter: the words of AR2, and the carried ones, of which the first as many as the order are live.
 #[repr(C)]
-#[derive(Drop)]
+#[derive(Clone, Copy)]
 pub struct DownWords {
     pub ar2: [i32; 2],
     pub fir: [i32; 36],
@@ -24,7 +26,7 @@ pub struct DownWords {
 
 // Of the interpolator: the words of the doubler, and the last eight doubled samples.
 #[repr(C)]
-#[derive(Drop)]
+#[derive(Clone, Copy)]
 pub struct UpWords {
     pub doubler: [i32; 6],
     pub samples: [i16; 8],
@@ -32,21 +34,21 @@ pub struct UpWords {
 
 // How many samples were written, and the words after them.
 #[repr(C)]
-#[derive(Drop)]
+#[derive(Clone, Copy)]
 pub struct Doubles {
     pub written: usize,
     pub words: Six,
 }
 
 #[repr(C)]
-#[derive(Drop)]
+#[derive(Clone, Copy)]
 pub struct DownPass {
     pub written: usize,
     pub words: DownWords,
 }
 
 #[repr(C)]
-#[derive(Drop)]
+#[derive(Clone, Copy)]
 pub struct UpPass {
     pub written: usize,
     pub words: UpWords,

@@ -1,7 +1,6 @@
 -- Pairs of rates with their paths, delays and increments (mod.rs). Assumes nothing.
-use Rattle.std.specs.Prelude.{ℕ, zero, suc, ◌+◌, ◌*◌, ◌/◌, ◌^◌, Bool, false, ◌&&◌, ◌||◌, ltb, eqb, get_or}
+use Rattle.std.specs.Prelude.{if◌then◌else◌, ℕ, zero, suc, ◌+◌, ◌*◌, ◌/◌, ◌^◌, Bool, false, ◌&&◌, ◌||◌, ltb, eqb, get_or}
 use mathlib.Core.List.{List, [], ◌∷◌, ◌++◌, map, flat_map}
-use Rattle.fixed.specs.Choice.{if◌then◌else◌}
 use Rattle.filters.specs.Stage.DownFir.{Filter, down_3_4, down_2_3, down_1_2, down_1_3, down_1_4, down_1_6}
 
 -- direction 1 is the encoder's, 0 the decoder's

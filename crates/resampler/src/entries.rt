@@ -9,7 +9,7 @@ ghost use Rattle.resampler.specs.Block.{zero?};
 use crate::{Record, pairs};
 
 // How many entries of each array are live.
-#[derive(Drop)]
+#[derive(Clone, Copy)]
 pub struct Live {
     pub doubler: usize,
     pub samples: usize,

@@ -10,7 +10,7 @@ use crate::{Record, pairs};
 use stages::Answer;
 
 // What an opening answers, and the record: the blank one where it is refused.
-#[derive(Drop)]
+#[derive(Clone, Copy)]
 pub struct Opened {
     pub answer: Answer,
     pub record: Record,

@@ -1,5 +1,7 @@
 // The resampler: pairs of rates, records and parked blocks, over the stages.
 // From silk/resampler/mod.rs.
+#![tactic(auto)]
+
 pub mod block;
 mod entries;
 mod init;
@@ -17,7 +19,7 @@ pub use resuming::{Resumed, resume};
 // A line's whole state, by value: its pair, and every word and sample that any path can carry.
 // Which of them a pair uses is said in specs/Record.antt; the others are zero.
 #[repr(C)]
-#[derive(Drop)]
+#[derive(Clone, Copy)]
 pub struct Record {
     pub direction: u8,
     pub inKhz: u8,

@@ -8,7 +8,7 @@ use crate::{Record, block, entries, pairs};
 use stages::Answer;
 
 // What parking answers, and the record that was given.
-#[derive(Drop)]
+#[derive(Clone, Copy)]
 pub struct Parked {
     pub answer: Answer,
     pub record: Record,

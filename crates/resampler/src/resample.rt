@@ -10,7 +10,7 @@ use crate::{Record, pairs, passes};
 use stages::Answer;
 
 // What a call answers, and the record after it: the one given where it is refused.
-#[derive(Drop)]
+#[derive(Clone, Copy)]
 pub struct Resampled {
     pub answer: Answer,
     pub record: Record,

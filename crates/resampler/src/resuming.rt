@@ -1,6 +1,5 @@
 // Resuming a line from its parked block. Meaning: specs/Block.antt.
-ghost use Rattle.std.specs.Prelude.{◌≡◌, not, eqb, length, take, drop, get_or};
-ghost use Rattle.fixed.specs.Choice.{if◌then◌else◌};
+ghost use Rattle.std.specs.Prelude.{if◌then◌else◌, ◌≡◌, not, eqb, length, take, drop, get_or};
 ghost use Rattle.stages.specs.declared.answer.Answer.TheVariants.{Refused};
 ghost use Rattle.filters.specs.Lists.{every};
 ghost use Rattle.stages.specs.Outcome.{outcome};
@@ -12,7 +11,7 @@ use crate::{Record, block, entries, init, pairs};
 use stages::Answer;
 
 // What a resuming answers, and the record: the blank one where it is refused.
-#[derive(Drop)]
+#[derive(Clone, Copy)]
 pub struct Resumed {
     pub answer: Answer,
     pub record: Record,

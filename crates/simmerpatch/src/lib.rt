@@ -1,5 +1,7 @@
 // The entry points as C functions: numbers, slices and the record by value, and nothing asked of a caller that C's types
 // leave to him but that a pointer and the length behind it belong together. Meaning: specs/Face.antt.
+#![tactic(auto)]
+
 ghost use Rattle.std.specs.Prelude.{◌≡◌};
 ghost use Rattle.stages.specs.Outcome.{number, written as count};
 ghost use Rattle.stages.specs.Entry.{down2_outcome, split_outcome, down23_outcome};
@@ -12,20 +14,20 @@ use stages::Answer;
 
 // The words of the 1/2 decimator and of the split; of the 2/3 decimator. C passes no array by value, but a struct of one.
 #[repr(C)]
-#[derive(Drop)]
+#[derive(Clone, Copy)]
 pub struct Two {
     pub w: [i32; 2],
 }
 
 #[repr(C)]
-#[derive(Drop)]
+#[derive(Clone, Copy)]
 pub struct Six {
     pub w: [i32; 6],
 }
 
 // The number of the row that refuses the call, or 0; how many samples were written; the state after them.
 #[repr(C)]
-#[derive(Drop)]
+#[derive(Clone, Copy)]
 pub struct Line {
     pub refused: u8,
     pub written: usize,
@@ -33,7 +35,7 @@ pub struct Line {
 }
 
 #[repr(C)]
-#[derive(Drop)]
+#[derive(Clone, Copy)]
 pub struct Halves {
     pub refused: u8,
     pub written: usize,
@@ -41,7 +43,7 @@ pub struct Halves {
 }
 
 #[repr(C)]
-#[derive(Drop)]
+#[derive(Clone, Copy)]
 pub struct Thirds {
     pub refused: u8,
     pub written: usize,
@@ -49,7 +51,7 @@ pub struct Thirds {
 }
 
 // An answer in two numbers.
-#[derive(Drop)]
+#[derive(Clone, Copy)]
 struct Numbers {
     refused: u8,
     written: usize,

@@ -1,4 +1,5 @@
 -- The claims of specs/Claims.antt. Assumes nothing.
+use Rattle.std.specs.Prelude.{if◌then◌else◌}
 use mathlib.Core.Path.{◌≡◌, refl, sym, ap, ◌∙◌}
 use mathlib.Core.List.{List}
 use mathlib.Core.Bool.{Bool, true, false}
@@ -10,7 +11,6 @@ use lib.IntN.{ℤ}
 use lib.ListN.{length, drop}
 use lib.Seq.{drop-append_seam}
 use Rattle.stages.specs.declared.answer.Answer.TheVariants.{Done, Refused}
-use Rattle.fixed.specs.Choice.{if◌then◌else◌}
 use Rattle.filters.specs.Lists.{tabulate, joined, pairs, padded}
 use Rattle.filters.specs.Run.{run, end}
 use Rattle.stages.specs.Outcome.{Outcome, outcome, ruled, written, over}

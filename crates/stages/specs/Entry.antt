@@ -1,7 +1,6 @@
 -- The outcomes of the entry points of this crate: the 1/2 decimator, the split and the 2/3 decimator.
 -- A row is the number of the first refusal that applies, in the order in which they are tested, or 0. Assumes nothing.
-use Rattle.std.specs.Prelude.{ℕ, ◌*◌, ◌/◌, ◌%◌, Bool, not, ◌&&◌, List, ltb, eqb, ℤ, length}
-use Rattle.fixed.specs.Choice.{if◌then◌else◌}
+use Rattle.std.specs.Prelude.{if◌then◌else◌, ℕ, ◌*◌, ◌/◌, ◌%◌, Bool, not, ◌&&◌, List, ltb, eqb, ℤ, length}
 use Rattle.filters.specs.Stage.Down2.{down2, down2_end}
 use Rattle.filters.specs.Stage.Down2_3.{down23, down23_end}
 use Rattle.filters.specs.Stage.AnaFiltBank1.{split_low, split_high, split_end}

@@ -1,7 +1,6 @@
 -- What a call leaves behind: its answer, the state that it returns and the output that was lent to it, refused calls too.
 -- Cited by every entry point, here and in the resampler. Assumes nothing.
-use Rattle.std.specs.Prelude.{◌≡◌, ℕ, List, ◌++◌, eqb, length, drop}
-use Rattle.fixed.specs.Choice.{if◌then◌else◌}
+use Rattle.std.specs.Prelude.{if◌then◌else◌, ◌≡◌, ℕ, List, ◌++◌, eqb, length, drop}
 use Rattle.stages.specs.declared.answer.Answer.{Answer}
 use Rattle.stages.specs.declared.answer.Answer.TheVariants.{Done, Refused}
 

@@ -12,7 +12,7 @@ use filters::allpass::Words;
 use filters::ana_filt_bank_1::step;
 
 // What a call answers, and the words after it.
-#[derive(Drop)]
+#[derive(Clone, Copy)]
 pub struct Split {
     pub answer: Answer,
     pub words: [i32; 2],

@@ -3,7 +3,7 @@ ghost use Rattle.std.specs.Prelude.{◌≡◌};
 ghost use Rattle.stages.specs.Entry.{half_row};
 
 // Done, with the samples written, or refused, with the number of the row that applies.
-#[derive(Drop)]
+#[derive(Clone, Copy)]
 pub enum Answer {
     Done { written: usize },
     Refused(u8),

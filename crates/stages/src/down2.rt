@@ -15,14 +15,14 @@ use filters::down2::step;
 use filters::rates;
 
 // What a call answers, and the words after it.
-#[derive(Drop)]
+#[derive(Clone, Copy)]
 pub struct Halved {
     pub answer: Answer,
     pub words: [i32; 2],
 }
 
 // The words between two parts of the input.
-#[derive(Drop)]
+#[derive(Clone, Copy)]
 struct Carried {
     w: [i32; 2],
 }

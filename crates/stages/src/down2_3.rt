@@ -14,7 +14,7 @@ use filters::down2_3::{Words, group_of};
 use filters::rom;
 
 // What a call answers, and the words after it.
-#[derive(Drop)]
+#[derive(Clone, Copy)]
 pub struct Thirds {
     pub answer: Answer,
     pub words: [i32; 6],

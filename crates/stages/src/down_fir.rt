@@ -60,14 +60,14 @@ fn read(
 }
 
 // The words of a down filter: those of AR2, and the carried ones, of which the first `order` are live.
-#[derive(Drop)]
+#[derive(Clone, Copy)]
 pub struct DownWords {
     pub ar2: [i32; 2],
     pub fir: [i32; 36],
 }
 
 // How many samples were written, and the words after them.
-#[derive(Drop)]
+#[derive(Clone, Copy)]
 pub struct DownPass {
     pub written: usize,
     pub words: DownWords,

@@ -44,14 +44,14 @@ fn read(t: &[[i32; 4]; 12], increment: usize, n: usize, buf: &[i16], out: &mut [
 }
 
 // The words of the interpolator: those of the doubler, and the last eight doubled samples.
-#[derive(Drop)]
+#[derive(Clone, Copy)]
 pub struct IirFirWords {
     pub doubler: [i32; 6],
     pub samples: [i16; 8],
 }
 
 // How many samples were written, and the words after them.
-#[derive(Drop)]
+#[derive(Clone, Copy)]
 pub struct IirFirPass {
     pub written: usize,
     pub words: IirFirWords,

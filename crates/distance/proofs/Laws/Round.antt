@@ -1,4 +1,5 @@
 -- Rounding and clipping: half a step more, to the exact value held to a sample. Assumes nothing.
+use Rattle.std.specs.Prelude.{if◌then◌else◌}
 use mathlib.Core.Path.{◌≡◌, refl, sym, ap, subst}
 use mathlib.Core.Bool.{Bool, true, false}
 use Prim.Native.Nat.{ℕ, zero, suc, ◌+◌, ◌*◌, ◌<◌, ◌≤◌}
@@ -8,7 +9,6 @@ use borrow.Author.Tests.{ltb-true, ltb-false}
 use lib.Dec.{T}
 use lib.IntN.{ℤ, pos, negsuc, nat_abs, neg_ℤ, ◌+ℤ◌, ◌-ℤ◌, ◌*ℤ◌}
 use lib.Signed.{lt_z}
-use Rattle.fixed.specs.Choice.{if◌then◌else◌}
 use Rattle.fixed.specs.Fixed.{rounded, narrowed}
 use Rattle.fixed.proofs.Laws.Integer.{P, N, pn-abs, p-neg, n-neg, p-scale, n-scale, Floor, shr-floor}
 use Rattle.fixed.proofs.Laws.Ring.{#, lit, ◌⊕◌, ◌⊖◌, ◌⊗◌, of}

@@ -1,7 +1,6 @@
 -- The down filters (down_fir.rs): AR2's output behind the carried words, as many as the order, read by that many taps.
 -- Assumes nothing.
-use Rattle.std.specs.Prelude.{◌≡◌, ℕ, ◌+◌, ◌*◌, ◌-◌, ◌/◌, ◌%◌, ◌<◌, ◌≤◌, List, [], ◌++◌, ltb, ℤ, pos, ◌+ℤ◌, length, drop, get_or}
-use Rattle.fixed.specs.Choice.{if◌then◌else◌}
+use Rattle.std.specs.Prelude.{if◌then◌else◌, ◌≡◌, ℕ, ◌+◌, ◌*◌, ◌-◌, ◌/◌, ◌%◌, ◌<◌, ◌≤◌, List, [], ◌++◌, ltb, ℤ, pos, ◌+ℤ◌, length, drop, get_or}
 use Rattle.filters.specs.Lists.{tabulate, cut, carried_on, ◌!◌}
 use Rattle.fixed.specs.Fixed.{wrapped, times, narrowed}
 use Rattle.filters.specs.Rom as Rom

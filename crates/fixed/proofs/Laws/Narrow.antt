@@ -1,5 +1,6 @@
 -- Narrowing on 32 bits: half of (x >> (n - 1)) + 1 is x / 2^n rounded to the nearest, halves upwards, and no step of it
 -- leaves the word; then the two tests clip. Assumes nothing.
+use Rattle.std.specs.Prelude.{if◌then◌else◌}
 use mathlib.Core.Path.{◌≡◌, ap, ◌∙◌}
 use mathlib.Core.Bool.{Bool, true, false}
 use Prim.Native.Nat.{ℕ, ◌+◌, ◌*◌, ◌/◌, ◌<◌, ◌≤◌}
@@ -10,7 +11,6 @@ use lib.IntN.{ℤ, pos, negsuc, ◌+ℤ◌}
 use lib.Signed.{shr_z, lt_z}
 use mir.Syntax.{w16, w32}
 use mir.Val.{SFits}
-use Rattle.fixed.specs.Choice.{if◌then◌else◌}
 use Rattle.fixed.specs.Fixed.{clipped}
 use Rattle.fixed.proofs.Laws.Integer.{P, N, pn-sum, shr-floor, floor-is}
 use Rattle.fixed.proofs.Laws.Wrap.{fits-pn}

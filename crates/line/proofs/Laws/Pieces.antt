@@ -1,5 +1,6 @@
 -- Bytes of 100 ms in front of others: their samples are the first piece, and what it leaves goes on with the others.
 -- Assumes nothing.
+use Rattle.std.specs.Prelude.{if◌then◌else◌}
 use mathlib.Core.Path.{◌≡◌, refl, sym, ap, ◌∙◌}
 use mathlib.Core.Bool.{true}
 use mathlib.Core.List.{List, [], ◌∷◌, ◌++◌, append_assoc, flat_map}
@@ -10,7 +11,6 @@ use lib.Dec.{eqb}
 use lib.IntN.{ℤ}
 use lib.ListN.{length, take, drop, length-append, length-drop}
 use lib.Seq.{take-append-le, drop-append-le, drop-append-add, take_at, drop_at}
-use Rattle.fixed.specs.Choice.{if◌then◌else◌}
 use Rattle.filters.specs.Lists.{tabulate, joined, cut}
 use Rattle.filters.specs.Run.{run, end, pass_out, pass_end}
 use Rattle.filters.proofs.Laws.Lists.{tabulate-length, cut-next}

@@ -1,5 +1,6 @@
 -- Bytes, the low one first, and the words of k of them: their bits are the machine's at the width that has as many.
 -- Assumes nothing.
+use Rattle.std.specs.Prelude.{if◌then◌else◌}
 use mathlib.Core.Path.{◌≡◌, refl, sym, ap, ◌∙◌}
 use mathlib.Core.Bool.{Bool, true, false}
 use mathlib.Core.List.{List, [], ◌∷◌, ◌++◌, flat_map}
@@ -14,7 +15,6 @@ use lib.Signed.{lt_z}
 use mir.Syntax.{Width}
 use mir.Val.{SFits, to_z, of_z, bits, hbits, sel}
 use mir.ValLaws.{to_z_pos, to_z-neg}
-use Rattle.fixed.specs.Choice.{if◌then◌else◌}
 use Rattle.filters.proofs.Laws.Lists.{drop-next, drop-none}
 use Rattle.little_endian.specs.Bytes.{bytes, value, bits_of, word_of, laid}
 

@@ -1,4 +1,5 @@
 -- Bytes, words and arrays of them, laid and read back, and the other way round. Assumes nothing.
+use Rattle.std.specs.Prelude.{if◌then◌else◌}
 use mathlib.Core.Path.{◌≡◌, refl, sym, ap, ◌∙◌}
 use mathlib.Core.Bool.{Bool, true, false}
 use mathlib.Core.List.{List, [], ◌∷◌, ◌++◌, flat_map, append_assoc}
@@ -10,7 +11,6 @@ use lib.Dec.{ltb}
 use lib.IntN.{ℤ, pos, negsuc}
 use lib.ListN.{length, take, drop, length-drop, take-append-drop}
 use lib.Seq.{length-take-le, take_at, drop_at, drop-drop, take-add}
-use Rattle.fixed.specs.Choice.{if◌then◌else◌}
 use Rattle.filters.specs.Lists.{tabulate, every}
 use Rattle.filters.proofs.Laws.Lists.{both_true}
 use Rattle.little_endian.specs.Bytes.{bytes, value, bits_of, word_of, laid, words_at}

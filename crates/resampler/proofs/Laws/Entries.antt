@@ -1,5 +1,6 @@
 -- Which entries are live, for either direction; the loop that clears the others: at each turn what is kept and cleared
 -- and the zeros to come are the whole; and whether the others are zero, array by array. Assumes nothing.
+use Rattle.std.specs.Prelude.{if◌then◌else◌}
 use mathlib.Core.Path.{◌≡◌, refl, sym, ◌∙◌}
 use mathlib.Core.Bool.{Bool, true, false, ◌&&◌}
 use mathlib.Core.List.{List, ◌++◌, append-nil}
@@ -10,7 +11,6 @@ use lib.Dec.{leb}
 use lib.IntN.{ℤ, pos}
 use lib.ListN.{length, take, drop, set, replicate, length-replicate, length-take}
 use lib.Seq.{length-take-le}
-use Rattle.fixed.specs.Choice.{if◌then◌else◌}
 use Rattle.filters.specs.Lists.{padded, every}
 use Rattle.filters.specs.Stage.DownFir.{down_1_3, down_1_4, down_1_6}
 use Rattle.filters.proofs.Laws.Lists.{drop-none, padded-length}

@@ -1,5 +1,6 @@
 -- What holds of each of the thirty pairs, by one computed test for all of them; and where a rate stands in the matrices of
 -- delays. Assumes nothing.
+use Rattle.std.specs.Prelude.{if◌then◌else◌}
 use mathlib.Core.Path.{◌≡◌, refl, sym, ◌∙◌, ap, subst}
 use mathlib.Core.Logic.{◌⊎◌, inl, inr}
 use mathlib.Core.Bool.{Bool, true, false, ◌&&◌, ◌||◌}
@@ -9,7 +10,6 @@ use native.Mathlib.Nat.{mul-le-mul_left, div-add-mod'}
 use native.Mathlib.Omega.{arith}
 use borrow.Author.Tests.{eqb-true, leb-true, ltb-true}
 use lib.Dec.{T, eqb, ltb, leb}
-use Rattle.fixed.specs.Choice.{if◌then◌else◌}
 use Rattle.filters.specs.Lists.{every}
 use Rattle.filters.proofs.Laws.Lists.{both_true}
 use Rattle.resampler.specs.Pairs.{Pair, pair, three, five, has, supported, rate_id, raised}

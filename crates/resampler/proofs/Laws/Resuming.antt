@@ -1,4 +1,5 @@
 -- The rows of resuming, in the order in which they are tested, and the record that stands in a block. Assumes nothing.
+use Rattle.std.specs.Prelude.{if◌then◌else◌}
 use mathlib.Core.Path.{◌≡◌, refl, ◌∙◌}
 use mathlib.Core.Bool.{Bool, true, false, not, ◌&&◌}
 use mathlib.Core.List.{List}
@@ -7,7 +8,6 @@ use native.Mathlib.Omega.{arith}
 use borrow.Author.Tests.{eq-eqb, ne_eqb, eqb-true}
 use lib.Dec.{eqb}
 use lib.ListN.{length, take, drop, get_or}
-use Rattle.fixed.specs.Choice.{if◌then◌else◌}
 use Rattle.filters.specs.Lists.{every}
 use Rattle.stages.specs.declared.answer.Answer.{Answer}
 use Rattle.stages.specs.declared.answer.Answer.TheVariants.{Done, Refused}

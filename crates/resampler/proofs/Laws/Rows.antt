@@ -1,4 +1,5 @@
 -- A call on which no row applies is one that is asked for; and what such a call makes is small. Assumes nothing.
+use Rattle.std.specs.Prelude.{if◌then◌else◌}
 use mathlib.Core.Path.{◌≡◌, refl}
 use mathlib.Core.Bool.{Bool, true, false, not, ◌||◌}
 use Prim.Native.Nat.{ℕ, zero, suc, ◌*◌, ◌/◌, ◌%◌, ◌<◌, ◌≤◌}
@@ -6,7 +7,6 @@ use native.Mathlib.Nat.{mul-le-mul, div-le_of_le-mul}
 use native.Mathlib.Omega.{arith}
 use borrow.Author.Tests.{eqb-true, eqb-false, ltb-false}
 use lib.Dec.{eqb, ltb}
-use Rattle.fixed.specs.Choice.{if◌then◌else◌}
 use Rattle.resampler.specs.Pairs.{Pair, supported}
 use Rattle.resampler.specs.declared.Record.{Record}
 use Rattle.resampler.specs.Record.{pair_of}

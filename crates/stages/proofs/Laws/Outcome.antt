@@ -1,5 +1,6 @@
 -- Outcomes: what a row leads to, what the shared rows show where none applies, and an output that is filled to its end.
 -- Assumes nothing.
+use Rattle.std.specs.Prelude.{if◌then◌else◌}
 use mathlib.Core.Path.{◌≡◌, refl}
 use mathlib.Core.Bool.{Bool, true, false, not}
 use mathlib.Core.List.{List, append-nil}
@@ -8,7 +9,6 @@ use native.Mathlib.Omega.{arith}
 use borrow.Author.Tests.{eq-eqb, ne_eqb, eqb-true, ltb-false}
 use lib.Dec.{ltb, eqb}
 use lib.ListN.{length, drop_of_length-le}
-use Rattle.fixed.specs.Choice.{if◌then◌else◌}
 use Rattle.stages.specs.declared.answer.Answer.TheVariants.{Refused}
 use Rattle.stages.specs.Outcome.{Outcome, outcome, ruled, over}
 use Rattle.stages.specs.Entry.{half_row, down23_row, most_samples}

@@ -1,0 +1,24 @@
+-- `filters::taps::half_inward` meets its contract: after k taps the sum is the definition's over the first k.
+-- Assumes nothing.
+use mathlib.Core.Path.{◌≡◌, refl, ◌∙◌}
+use Prim.Native.Nat.{◌+◌, ◌-◌, ◌/◌, ◌%◌, ◌≤◌}
+use native.Mathlib.Omega.{arith}
+use borrow.Author.Rules.{rules}
+use lib.IntN.{pos}
+use lib.ListN.{take, drop}
+use mir.Syntax.{w32}
+use mir.Val.{to_z}
+use Rattle.fixed.specs.Fixed.{times}
+use Rattle.filters.specs.Reader.{sum}
+use Rattle.filters.specs.Stage.DownFir.{outer_sums}
+use Rattle.fixed.proofs.Laws.Fit.{back}
+use Rattle.filters.proofs.Laws.Lengths.{outer_sums-length}
+use Rattle.filters.proofs.Laws.Dot.{sum_more}
+use Rattle.filters.proofs.taps.half_inward.Given as goal
+
+abbrev pub invariant-loop-k : goal.invariant-loop-k
+invariant-loop-k l = (l.half ≡ l.order / 2) × (l.half % 3 ≡ 0) × (l.k % 3 ≡ 0) × (l.k ≤ l.half)
+    × (l.acc ≡ sum times (pos 0) (take l.k (drop l.c l.cs)) (outer_sums l.order l.ys))
+
+abbrev pub decreases-loop-k : goal.decreases-loop-k
+decreases-loop-k l = l.half - l.k

@@ -1,0 +1,13 @@
+-- `bytes::number` meets its contract: from the high byte down, each turn puts one more below the number.
+-- Assumes nothing.
+use Prim.Native.Nat.{◌+◌, ◌-◌}
+use native.Mathlib.Omega.{arith}
+use borrow.Author.Rules.{rules}
+use Rattle.little_endian.proofs.Laws.Bytes.{Read, read-start, read-room, read-turn, read-end}
+use Rattle.little_endian.proofs.number.Given as goal
+
+abbrev pub invariant-loop-i : goal.invariant-loop-i
+invariant-loop-i l = Read l.block l.at l.k l.i l.n
+
+abbrev pub decreases-loop-i : goal.decreases-loop-i
+decreases-loop-i l = l.i

@@ -1,0 +1,43 @@
+-- `bytes::put_words` meets its contract: at each turn what is put and what is left are the whole.
+-- Assumes nothing.
+use Prim.Native.Nat.{◌-◌}
+use mathlib.Core.Path.{ap, ◌∙◌}
+use native.Mathlib.Omega.{arith}
+use borrow.Author.Rules.{rules}
+use lib.ListN.{length}
+use mir.Syntax.{w32}
+use Rattle.fixed.proofs.Laws.Fit.{back}
+use Rattle.filters.specs.Lists.{◌!◌}
+use Rattle.little_endian.specs.Bytes.{bits_of}
+use Rattle.little_endian.proofs.Laws.Laying.{Laying, lay-start, lay-room, lay-turn, lay-end}
+use Rattle.little_endian.proofs.put_words.Goals as goal
+
+pub loop-j-init : goal.loop-j-init
+loop-j-init c = lay-start _ _ _ _ c.before.requires
+
+pub put-requires : goal.put-requires
+put-requires c =
+    let t = c.before.before.before in
+    lay-room _ _ _ _ t.loop-j-test.true t.before.loop-j.invariant
+
+pub overflow_add-i : goal.overflow_add-i
+overflow_add-i c =
+    let t = c.before.before.before.before.before.before in
+    omega (arith, lay-room _ _ _ _ t.loop-j-test.true t.before.loop-j.invariant)
+
+pub loop-j-preserved : goal.loop-j-preserved
+loop-j-preserved c =
+    let p = c.before.before in
+    let made = p.before.before in
+    let read = made.before in
+    let l = read.before.before in
+    let words = l.before.before.args.words.now in
+    let x = back w32 (words ! l.loop-j.j) read.word_bits-arg-1.given in
+    let bits = made.word_bits-bits.ensures ∙ ap (bits_of 4) x in
+    lay-turn _ _ words _ read.before.loop-j-test.true l.loop-j.invariant bits p.put.ensures
+
+pub shape_of-block : goal.shape_of-block
+shape_of-block c = c.before.loop-j.invariant.filling.len
+
+pub returns : goal.returns
+returns c = lay-end _ _ _ _ c.loop-j-test.false c.before.loop-j.invariant

@@ -1,0 +1,79 @@
+-- `stages::up2_hq::silk_resampler_private_up2_HQ` meets its contract: what is made of parts, one behind the other, is what is made of the
+-- whole.
+-- Assumes nothing.
+use mathlib.Core.Path.{◌≡◌}
+use Prim.Native.Nat.{◌+◌, ◌*◌, ◌-◌, ◌<◌, ◌≤◌, min}
+use native.Mathlib.Omega.{arith}
+use borrow.Author.Rules.{rules}
+use lib.ListN.{length, drop, length-take, length-drop}
+use Rattle.filters.specs.Stage.Up2Hq.{up2, up2_end}
+use Rattle.filters.proofs.Laws.Lengths.{up2-length, up2_end-length}
+use Rattle.stages.proofs.Laws.Pass.{Passing, part_length, pass-room, pass-turn, whole-start, whole-end}
+use Rattle.stages.proofs.Laws.Parts.{up2-nothing, up2-parts}
+use Rattle.stages.proofs.up2_hq.silk_resampler_private_up2_HQ.Goals as goal
+use Rattle.stages.proofs.up2_hq.silk_resampler_private_up2_HQ.Lts as Lts
+use Rattle.stages.proofs.up2_hq.silk_resampler_private_up2_HQ.Reads as Reads
+use Rattle.stages.proofs.up2_hq.silk_resampler_private_up2_HQ.Tie as Tie
+
+abbrev After-least-n : Type 0
+After-least-n = Lts.After-least Tie.the-claims Reads.Pre Reads.Post goal.the-invariant-loop-at goal.the-decreases-loop-at
+
+abbrev At-loop-at : Type 0
+At-loop-at = Lts.At-loop Tie.the-claims Reads.Pre Reads.Post goal.the-invariant-loop-at goal.the-decreases-loop-at
+
+some : 0 < 160
+some = omega arith
+
+-- a turn: how many samples it takes, and that what it makes of them has room
+module _ (c : After-least-n) where
+  abbrev l : At-loop-at
+  l = c.before.before
+
+  count : c.least-n.result ≡ min (length l.before.args.input.now - l.loop-at.at) 160
+  count = omega arith
+
+  room : l.loop-at.done + 2 * c.least-n.result ≤ length l.loop-at.out
+  room = pass-room _ _ _ _ _ _ some _ count c.before.loop-at-test.true l.loop-at.invariant.1 (λ n. 2 * n) up2-length
+
+pub loop-at-init : goal.loop-at-init
+loop-at-init c =
+    let a = c.args in
+    let xs = a.input.now in
+    (c.requires.0, whole-start up2 up2_end 160 some up2-nothing (up2-parts 160) a.state xs (omega (arith, c.requires.1, up2-length a.state xs)))
+
+pub part-s-requires : goal.part-s-requires
+part-s-requires c =
+    let n = c.before.before.before in
+    let k = (l n).loop-at in
+    let taken = part_length _ _ _ _ _ _ some _ (count n) n.before.loop-at-test.true k.invariant.1 in (
+      k.invariant.0,
+      omega (arith, taken, count n),
+      omega (arith, taken, room n, length-take (length k.out - k.done) (drop k.done k.out), length-drop k.done k.out),
+    )
+
+pub overflow_mul-done : goal.overflow_mul-done
+overflow_mul-done c =
+    let n = c.before.before.before.before.before in
+    record { fits = omega (arith, room n, (l n).loop-at.invariant.1.filling.len, (l n).before.well_formed) }
+
+pub overflow_add-done : goal.overflow_add-done
+overflow_add-done c =
+    let n = c.before.before.before.before.before in
+    record { fits = omega (arith, room n, (l n).loop-at.invariant.1.filling.len, (l n).before.well_formed) }
+
+pub loop-at-preserved : goal.loop-at-preserved
+loop-at-preserved c =
+    let p = c.before.part-s.ensures in
+    let n = c.before.before.before.before.before in
+    let k = (l n).loop-at in (
+      rw p.carried (up2_end-length k.s.w _ k.invariant.0),
+      pass-turn _ _ _ _ _ _ some _ (count n) n.before.loop-at-test.true k.invariant.1 (λ n. 2 * n) up2-length p.filled p.carried,
+    )
+
+pub shape_of-out : goal.shape_of-out
+shape_of-out c = c.before.before.loop-at.invariant.1.filling.len
+
+pub returns : goal.returns
+returns c =
+    let (filled, carried) = whole-end up2 up2_end 160 some up2-nothing (up2-parts 160) c.before.loop-at-test.false c.before.before.loop-at.invariant.1 in
+    record { filled = filled; carried = carried }
