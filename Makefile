@@ -6,26 +6,23 @@ PREFIX ?= /usr/local
 # Replays the stored answers of the Rust original against the proved code, then runs what its entry points refuse, then opens
 # a line and converts a stored tone (20 ms, a triangle of 500 Hz) through the two programs.
 run:
-	@mkdir -p target
-	@rt check replay refusals open_line convert >target/run.log 2>&1 || { cat target/run.log; exit 1; }
+	@tools/made replay refusals open_line convert
 	@cd crates/replay/data && ../../../target/bin/replay
 	@target/bin/refusals
 	@target/bin/open_line encoder 8 16 | cat - samples/tone-8k.raw | target/bin/convert >target/tone-16k
 	@echo "samples/tone-8k.raw, 160 samples at 8 kHz, converted to 16 kHz: $$(($$(wc -c <target/tone-16k) / 2 - 256)) samples and a block. The first:"
 	@od -An -td2 -v -w48 -N48 target/tone-16k
 
-# Layout, the library's bindings and a short run of the suite; then every proof, every must-fail edit and every program. The
+# The library's bindings and a short run of the suite; then layout, every proof, every must-fail edit and every program. The
 # last line is the verdict.
 test:
-	@rt fmt --check
 	@$(MAKE) --no-print-directory bindings
 	@tools/suite/run
-	@rt ci
+	@tools/gate
 
 # The static library for C and Rust: target/staticlib/libsimmerpatch.a; its header is bindings/c/simmerpatch.h.
 lib:
-	@mkdir -p target
-	@rt staticlib simmerpatch >target/lib.log 2>&1 || { cat target/lib.log; exit 1; }
+	@tools/made simmerpatch
 	@echo target/staticlib/libsimmerpatch.a
 
 # Library, header and pkg-config file, under PREFIX (and DESTDIR before it).
