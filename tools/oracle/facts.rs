@@ -124,18 +124,18 @@ fn pairs() -> Vec<Pair> {
 fn tables() -> Module {
     let mut module = Module::new("Tables", "List ℤ");
     for (name, table) in [
-        ("silk-Resampler-3-4-COEFS", &silk_Resampler_3_4_COEFS[..]),
-        ("silk-Resampler-2-3-COEFS", &silk_Resampler_2_3_COEFS),
-        ("silk-Resampler-1-2-COEFS", &silk_Resampler_1_2_COEFS),
-        ("silk-Resampler-1-3-COEFS", &silk_Resampler_1_3_COEFS),
-        ("silk-Resampler-1-4-COEFS", &silk_Resampler_1_4_COEFS),
-        ("silk-Resampler-1-6-COEFS", &silk_Resampler_1_6_COEFS),
-        ("silk-Resampler-2-3-COEFS-LQ", &silk_Resampler_2_3_COEFS_LQ),
+        ("silk_Resampler_3_4_COEFS", &silk_Resampler_3_4_COEFS[..]),
+        ("silk_Resampler_2_3_COEFS", &silk_Resampler_2_3_COEFS),
+        ("silk_Resampler_1_2_COEFS", &silk_Resampler_1_2_COEFS),
+        ("silk_Resampler_1_3_COEFS", &silk_Resampler_1_3_COEFS),
+        ("silk_Resampler_1_4_COEFS", &silk_Resampler_1_4_COEFS),
+        ("silk_Resampler_1_6_COEFS", &silk_Resampler_1_6_COEFS),
+        ("silk_Resampler_2_3_COEFS_LQ", &silk_Resampler_2_3_COEFS_LQ),
     ] {
         module.fact(&format!("Rom.{name}"), &list(table));
     }
     for (k, row) in silk_resampler_frac_FIR_12.iter().enumerate() {
-        let given = format!("getD Rom.silk-resampler-frac-FIR-12 {k} []");
+        let given = format!("get_or Rom.silk_resampler_frac_FIR_12 {k} []");
         module.fact(&given, &list(row));
     }
     sections(&mut module);
@@ -146,13 +146,13 @@ fn tables() -> Module {
 /// keeps it less 65536.
 fn sections(module: &mut Module) {
     for (given, coefficients) in [
-        ("Rom.silk-resampler-up2-hq-0", &silk_resampler_up2_hq_0[..]),
-        ("Rom.silk-resampler-up2-hq-1", &silk_resampler_up2_hq_1),
+        ("Rom.silk_resampler_up2_hq_0", &silk_resampler_up2_hq_0[..]),
+        ("Rom.silk_resampler_up2_hq_1", &silk_resampler_up2_hq_1),
         (
-            "(Rom.silk-resampler-down2-0 ∷ Rom.silk-resampler-down2-1 ∷ [])",
+            "(Rom.silk_resampler_down2_0 ∷ Rom.silk_resampler_down2_1 ∷ [])",
             &[silk_resampler_down2_0, silk_resampler_down2_1],
         ),
-        ("(Rom.A-fb1-20 ∷ Rom.A-fb1-21 ∷ [])", &unsafe {
+        ("(Rom.A_fb1_20 ∷ Rom.A_fb1_21 ∷ [])", &unsafe {
             [A_fb1_20, A_fb1_21]
         }),
     ] {
@@ -168,7 +168,7 @@ fn parameters() -> Module {
         for (definition, said) in [
             ("increment", params.inv_ratio_q16 as usize),
             ("delay", params.input_delay),
-            ("batchSize", params.batch_size),
+            ("batch_size", params.batch_size),
         ] {
             let given = format!("{definition} (pair {})", pair.text());
             module.fact(&given, &said.to_string());
@@ -188,7 +188,7 @@ fn opening() -> Module {
         for out_hz in rates {
             for for_enc in [0, 1, -5] {
                 let asked = [in_hz, out_hz, for_enc].map(|n| format!("({})", number(n.into())));
-                let given = format!("openOutcome {}", asked.join(" "));
+                let given = format!("open_outcome {}", asked.join(" "));
                 module.fact(&given, &opened(in_hz, out_hz, for_enc));
             }
         }
@@ -217,7 +217,7 @@ fn down2(dice: &mut Dice) -> Module {
         silk_resampler_down2(&mut after, &mut out, &input);
         module.fact(
             &format!(
-                "down2Outcome {} {} (zeros {half})",
+                "down2_outcome {} {} (zeros {half})",
                 list(&words),
                 list(&input)
             ),
@@ -234,7 +234,7 @@ fn split(dice: &mut Dice) -> Module {
         let (after, low, high) = split_of(words, &input);
         module.fact(
             &format!(
-                "splitOutcome {} {} (zeros {half}) (zeros {half})",
+                "split_outcome {} {} (zeros {half}) (zeros {half})",
                 list(&words),
                 list(&input)
             ),
@@ -279,7 +279,7 @@ fn down2_3(dice: &mut Dice) -> Module {
         silk_resampler_down2_3(&mut after, &mut out, &input);
         module.fact(
             &format!(
-                "down23Outcome {} {} (room {made})",
+                "down23_outcome {} {} (room {made})",
                 list(&words),
                 list(&input)
             ),
@@ -353,11 +353,11 @@ fn long_call(dice: &mut Dice) -> Module {
     silk_resampler(&mut state, &mut out, &input);
     let said = list(&out[172 * 48..]);
     let call = format!(
-        "resampleOutcome {before} {} (room {})",
+        "resample_outcome {before} {} (room {})",
         list(&input),
         173 * 48
     );
-    module.fact(&format!("drop {} (({call}) .lent)", 172 * 48), &said);
+    module.fact(&format!("drop {} (({call}).lent)", 172 * 48), &said);
     module
 }
 
@@ -373,7 +373,7 @@ fn resample(
     let mut out = room(made);
     silk_resampler(state, &mut out, input);
     module.fact(
-        &format!("resampleOutcome {before} {} (room {made})", list(input)),
+        &format!("resample_outcome {before} {} (room {made})", list(input)),
         &format!("done {made} {} {}", record(pair, state, 0), list(&out)),
     );
 }
@@ -506,23 +506,19 @@ fn extreme_samples(length: usize, dice: &mut Dice) -> Vec<i16> {
 /// What the tables share. To unfold `Hold` is to unfold all that its `unfolding` line names.
 const FACT: &str = "\
 -- A fact, the forms that facts are written in, and the claim that a table of them holds.
-use Prim.Native.Nat.{ℕ}
-use mathlib.Core.Path.{_≡_}
-use mathlib.Core.List.{List, [], _∷_, _++_, map}
-use lib.IntN.{ℤ, pos}
-use lib.ListN.{replicate}
-use Rattle·filters.specs.Rom.{+_, -_}
-use Rattle·stages.specs.declared.answer.Answer.the-variants.{Done, Refused}
-use Rattle·stages.specs.Outcome.{Outcome, outcome}
-use Rattle·resampler.specs.declared.Record.{Record}
+use Rattle.std.specs.Prelude.{◌≡◌, ℕ, List, [], ◌∷◌, ◌++◌, map, ℤ, pos, replicate}
+use Rattle.filters.specs.Rom.{+◌, -◌}
+use Rattle.stages.specs.declared.answer.Answer.TheVariants.{Done, Refused}
+use Rattle.stages.specs.Outcome.{Outcome, outcome}
+use Rattle.resampler.specs.declared.Record.{Record}
 
 -- what a definition gives, and what the Rust said
 pub record Fact (A : Type 0) : Type 0 where
   pub given : A
   pub said : A
 
-infix 20 _is_
-abbrev pub _is_ : {A : Type 0} → A → A → Fact A
+infix 20 ◌is◌
+abbrev pub ◌is◌ : {A : Type 0} → A → A → Fact A
 g is s = record { given = g; said = s }
 
 abbrev pub done : {S L : Type 0} → ℕ → S → L → Outcome S L
@@ -556,24 +552,20 @@ blank = line 0 0 0 (zeros 6) (zeros 8) (zeros 2) (zeros 36) (zeros 48)
 unfoldable pub Hold : {A : Type 0} → List (Fact A) → Type 0
 unfolding
 NAMES
-Hold facts = map (λ f. f .given) facts ≡ map (λ f. f .said) facts
+Hold facts = map (λ f. f.given) facts ≡ map (λ f. f.said) facts
 ";
 
 const TABLE: &str = "\
-use Prim.Native.Nat.{ℕ}
-use mathlib.Core.Path.{refl}
-use mathlib.Core.List.{List, [], _∷_, _++_}
-use lib.IntN.{ℤ}
-use lib.ListN.{drop, getD}
-use Rattle·filters.specs.Rom as Rom
-use Rattle·filters.specs.Rom.{+_, -_}
-use Rattle·stages.specs.Outcome.{Outcome}
-use Rattle·stages.specs.Entry.{down2Outcome, splitOutcome, down23Outcome}
-use Rattle·resampler.specs.declared.Record.{Record}
-use Rattle·resampler.specs.Pairs.{pair, increment, delay}
-use Rattle·resampler.specs.Resample.{batchSize}
-use Rattle·resampler.specs.Entry.{openOutcome, resampleOutcome}
-use Rattle·facts·specs.specs.Fact.{Fact, _is_, done, refused, zeros, room, line, blank, Hold}
+use Rattle.std.specs.Prelude.{ℕ, List, [], ◌∷◌, ◌++◌, ℤ, drop, get_or, refl}
+use Rattle.filters.specs.Rom as Rom
+use Rattle.filters.specs.Rom.{+◌, -◌}
+use Rattle.stages.specs.Outcome.{Outcome}
+use Rattle.stages.specs.Entry.{down2_outcome, split_outcome, down23_outcome}
+use Rattle.resampler.specs.declared.Record.{Record}
+use Rattle.resampler.specs.Pairs.{pair, increment, delay}
+use Rattle.resampler.specs.Resample.{batch_size}
+use Rattle.resampler.specs.Entry.{open_outcome, resample_outcome}
+use Rattle.facts.specs.Fact.{Fact, ◌is◌, done, refused, zeros, room, line, blank, Hold}
 
 abbrev facts : List (Fact (COMPARED))
 facts =
