@@ -1,3 +1,7 @@
-fn main() {
-    line::run();
+#![tactic(auto)]
+
+use std::io;
+
+fn main(rt: HostRuntime) -> io::Result<()> {
+    line::run(&rt)
 }

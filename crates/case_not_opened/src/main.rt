@@ -1,3 +1,7 @@
-fn main() {
-    line::open_line();
+#![tactic(auto)]
+
+use std::io;
+
+fn main(rt: HostRuntime) -> io::Result<()> {
+    line::open_line(&rt)
 }

@@ -10,7 +10,7 @@ ghost use Rattle.line.specs.Call.{Asks, Leaves};
 use resampler::Record;
 
 // The record after a call, the bytes that it put out, and how many it left over.
-#[derive(Drop)]
+#[derive(Clone, Copy)]
 pub struct Called {
     pub record: Record,
     pub count: usize,

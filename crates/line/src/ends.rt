@@ -9,7 +9,7 @@ use crate::answers;
 use resampler::Record;
 
 // The number of the row that refused the block, or 0 and its record.
-#[derive(Drop)]
+#[derive(Clone, Copy)]
 pub struct Begun {
     pub row: u8,
     pub record: Record,

@@ -1,17 +1,17 @@
 // Writing the messages to standard error.
 use crate::message;
-use libc::STDERR_FILENO;
+use std::io;
 
 // Writes `refused N`.
-pub fn refuse(row: u8) {
+pub fn refuse(rt: &HostRuntime, row: u8) -> io::Result<()> {
     let mut text = [0u8; 48];
     let n = message::refused(&mut text, row);
-    io::write_all(STDERR_FILENO, &text[..n]);
+    rt.stderr().write_all(&text[..n])
 }
 
 // Writes `left over N bytes`.
-pub fn leave(bytes: usize) {
+pub fn leave(rt: &HostRuntime, bytes: usize) -> io::Result<()> {
     let mut text = [0u8; 48];
     let n = message::left_over(&mut text, bytes);
-    io::write_all(STDERR_FILENO, &text[..n]);
+    rt.stderr().write_all(&text[..n])
 }

@@ -1,15 +1,16 @@
 // The program `convert` between standard input and standard output. What it reads and writes no contract can say; what it makes
 // of it is specs/Line.antt, by the parts that it calls.
-ghost use Rattle.std.specs.Prelude.{◌≡◌, true, ◌*◌, ◌≤◌, length};
+ghost use Rattle.std.specs.Prelude.{◌≡◌, true, ◌*◌, IfOk, length};
 ghost use Rattle.resampler.specs.Pairs.{supported};
 ghost use Rattle.resampler.specs.Record.{pair_of};
 
+use crate::reading::read_full;
 use crate::{calls, ends, said};
-use libc::{STDIN_FILENO, STDOUT_FILENO};
 use resampler::Record;
+use std::io;
 
 // What a turn of reading, converting and writing leaves: whether there may be more, the bytes left over, the record.
-#[derive(Drop)]
+#[derive(Clone, Copy)]
 struct Turned {
     more: bool,
     left: usize,
@@ -17,69 +18,68 @@ struct Turned {
 }
 
 // Reads a block and then samples, writes the converted samples and then the new block. A refused block writes nothing.
-pub fn run() {
+pub fn run(rt: &HostRuntime) -> io::Result<()> {
     let mut head = [0u8; 512];
-    let n = io::read_full(STDIN_FILENO, &mut head);
+    let n = read_full(rt, &mut head)?;
     let begun = ends::begin(&head[..n]);
     if begun.row != 0 {
-        said::refuse(begun.row);
-        return;
+        return said::refuse(rt, begun.row);
     }
     let record = begun.record;
-    go_on(record);
+    go_on(rt, record)
 }
 
 // The samples, what is left over, and the new block.
-fn go_on(s: Record)
+fn go_on(rt: &HostRuntime, s: Record) -> io::Result<()>
     requires { supported (pair_of s) ≡ true }
 {
-    let t = feed(s);
+    let t = feed(rt, s)?;
     if t.left != 0 {
-        said::leave(t.left);
+        said::leave(rt, t.left)?;
     }
     let record = t.record;
     let mut block = [0u8; 512];
-    write_block(record, &mut block);
+    write_block(rt, record, &mut block)
 }
 
-fn write_block(s: Record, block: &mut [u8])
+fn write_block(rt: &HostRuntime, s: Record, block: &mut [u8]) -> io::Result<()>
     requires { (supported (pair_of s) ≡ true) × (length block.old ≡ 512) }
 {
     ends::finish(s, block);
-    io::write_all(STDOUT_FILENO, block);
+    rt.write_all(block)
 }
 
 // Turn after turn, until the input ends.
-fn feed(s: Record) -> Turned
+fn feed(rt: &HostRuntime, s: Record) -> io::Result<Turned>
     requires { supported (pair_of s) ≡ true }
-    ensures { supported (pair_of result.record) ≡ true }
+    ensures { IfOk result (λ t. supported (pair_of t.record) ≡ true) }
 {
     let mut record = s;
     let mut turns = u64::MAX;
     while 0 < turns {
-        let t = turn(record);
+        let t = turn(rt, record)?;
         if !t.more {
-            return t;
+            return Ok(t);
         }
         record = t.record;
         turns -= 1;
     }
-    Turned {
+    Ok(Turned {
         more: false,
         left: 0,
         record,
-    }
+    })
 }
 
 // One turn: 100 ms.
-fn turn(s: Record) -> Turned
+fn turn(rt: &HostRuntime, s: Record) -> io::Result<Turned>
     requires { supported (pair_of s) ≡ true }
-    ensures { supported (pair_of result.record) ≡ true }
+    ensures { IfOk result (λ t. supported (pair_of t.record) ≡ true) }
 {
     let most = 200 * (s.inKhz as usize);
     let mut input = buffer();
     let mut out = buffer();
-    piece(s, &mut input[..most], &mut out)
+    piece(rt, s, &mut input[..most], &mut out)
 }
 
 // Room for the bytes of 100 ms at any rate.
@@ -90,18 +90,18 @@ fn buffer() -> [u8; 9600]
 }
 
 // Fills `input`, or as much of it as there is, converts it by way of `out` and writes what was made.
-fn piece(s: Record, input: &mut [u8], out: &mut [u8]) -> Turned
+fn piece(rt: &HostRuntime, s: Record, input: &mut [u8], out: &mut [u8]) -> io::Result<Turned>
     requires { (supported (pair_of s) ≡ true) × (length input.old ≡ 200 * s.inKhz) × (length out.old ≡ 9600) }
-    ensures { supported (pair_of result.record) ≡ true }
+    ensures { IfOk result (λ t. supported (pair_of t.record) ≡ true) }
 {
-    let n = io::read_full(STDIN_FILENO, input);
+    let n = read_full(rt, input)?;
     let c = calls::call(s, &input[..n], out);
     let count = c.count;
-    io::write_all(STDOUT_FILENO, &out[..count]);
+    rt.write_all(&out[..count])?;
     let record = c.record;
-    Turned {
+    Ok(Turned {
         more: n == input.len(),
         left: c.left,
         record,
-    }
+    })
 }

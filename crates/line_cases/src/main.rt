@@ -1,9 +1,11 @@
 // Runs blocks that are resumed and blocks that are refused, and the messages, and prints what the programs would write of them.
+#![tactic(auto)]
+
 ghost use Rattle.std.specs.Prelude.{◌≡◌, ◌<◌, length};
 
-use libc::STDOUT_FILENO;
 use line::{ends, message, opening};
 use resampler::block;
+use std::io;
 
 // The fresh block of the encoder from 8 to 16 kHz, with one byte set: how many of its bytes are read, the byte's place and its
 // value, and whether the check is made anew. The rows come in the order in which they are tested, also where a later one
@@ -34,34 +36,34 @@ const BLOCKS: [[usize; 4]; 21] = [
 
 const LEFT: [usize; 6] = [1, 9, 10, 95, 100, 18446744073709551615];
 
-fn text(t: &[u8]) {
-    io::write_all(STDOUT_FILENO, t);
+fn text(rt: &HostRuntime, t: &[u8]) -> io::Result<()> {
+    rt.write_all(t)
 }
 
 // A number, and the text behind it.
-fn count(n: usize, t: &[u8]) {
-    io::print_decimal(STDOUT_FILENO, n as u64);
-    text(t);
+fn count(rt: &HostRuntime, n: usize, t: &[u8]) -> io::Result<()> {
+    print!(rt; "{n}")?;
+    text(rt, t)
 }
 
-fn refused(row: u8) {
+fn refused(rt: &HostRuntime, row: u8) -> io::Result<()> {
     let mut t = [0u8; 48];
     let n = message::refused(&mut t, row);
-    text(&t[..n]);
+    text(rt, &t[..n])
 }
 
-fn left_over(bytes: usize) {
+fn left_over(rt: &HostRuntime, bytes: usize) -> io::Result<()> {
     let mut t = [0u8; 48];
     let n = message::left_over(&mut t, bytes);
-    text(&t[..n]);
+    text(rt, &t[..n])
 }
 
-fn show(b: &[u8]) {
+fn show(rt: &HostRuntime, b: &[u8]) -> io::Result<()> {
     let begun = ends::begin(b);
     if begun.row == 0 {
-        text(b"resumed\n");
+        text(rt, b"resumed\n")
     } else {
-        refused(begun.row);
+        refused(rt, begun.row)
     }
 }
 
@@ -82,49 +84,58 @@ fn set(b: &mut [u8], at: usize, value: u8)
     b[at] = value;
 }
 
-fn changed(b: &mut [u8], read: usize, at: usize, value: usize, anew: usize)
+fn changed(
+    rt: &HostRuntime,
+    b: &mut [u8],
+    read: usize,
+    at: usize,
+    value: usize,
+    anew: usize,
+) -> io::Result<()>
     requires { length b.old ≡ 512 }
 {
     if 512 < read {
-        return;
+        return Ok(());
     }
     if 511 < at {
-        return;
+        return Ok(());
     }
     opening::open(b"encoder", b"8", b"16", b);
     set(b, at, (value % 256) as u8);
     seal(b, anew);
-    show(&b[..read]);
+    show(rt, &b[..read])
 }
 
-fn case(read: usize, at: usize, value: usize, anew: usize) {
-    count(read, b" bytes, byte ");
-    count(at, b" is ");
+fn case(rt: &HostRuntime, read: usize, at: usize, value: usize, anew: usize) -> io::Result<()> {
+    count(rt, read, b" bytes, byte ")?;
+    count(rt, at, b" is ")?;
     if anew == 1 {
-        count(value, b", check made anew: ");
+        count(rt, value, b", check made anew: ")?;
     } else {
-        count(value, b": ");
+        count(rt, value, b": ")?;
     }
     let mut b = [0u8; 512];
-    changed(&mut b, read, at, value, anew);
+    changed(rt, &mut b, read, at, value, anew)
 }
 
-fn blocks() {
+fn blocks(rt: &HostRuntime) -> io::Result<()> {
     let mut i: usize = 0;
     while i < 21 {
         let c = BLOCKS[i];
-        case(c[0], c[1], c[2], c[3]);
+        case(rt, c[0], c[1], c[2], c[3])?;
         i += 1;
     }
+    Ok(())
 }
 
-fn main() {
-    blocks();
-    refused(1);
-    refused(255);
+fn main(rt: HostRuntime) -> io::Result<()> {
+    blocks(&rt)?;
+    refused(&rt, 1)?;
+    refused(&rt, 255)?;
     let mut i: usize = 0;
     while i < 6 {
-        left_over(LEFT[i]);
+        left_over(&rt, LEFT[i])?;
         i += 1;
     }
+    Ok(())
 }

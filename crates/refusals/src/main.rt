@@ -1,10 +1,12 @@
 // Runs every row of refusals of the decimators, the split and the resampler, and accepted calls beside them, and prints what each
 // call left: the answer's number and count, the words, and how many places behind the count are as they were.
+#![tactic(auto)]
+
 ghost use Rattle.std.specs.Prelude.{◌≤◌};
 
-use libc::STDOUT_FILENO;
 use resampler::Record;
 use stages::Answer;
+use std::io;
 
 // Every sample of the input.
 const SAMPLE: i16 = 1000;
@@ -86,7 +88,7 @@ const CALLS: [[usize; 4]; 63] = [
 ];
 
 // An answer in two numbers.
-#[derive(Drop)]
+#[derive(Clone, Copy)]
 struct Numbers {
     row: usize,
     written: usize,
@@ -102,14 +104,14 @@ fn counted(a: Answer) -> Numbers {
     }
 }
 
-fn text(t: &[u8]) {
-    io::write_all(STDOUT_FILENO, t);
+fn text(rt: &HostRuntime, t: &[u8]) -> io::Result<()> {
+    rt.write_all(t)
 }
 
 // A number, and the text behind it.
-fn count(n: usize, t: &[u8]) {
-    io::print_decimal(STDOUT_FILENO, n as u64);
-    text(t);
+fn count(rt: &HostRuntime, n: usize, t: &[u8]) -> io::Result<()> {
+    print!(rt; "{n}")?;
+    text(rt, t)
 }
 
 fn one(x: i16) -> usize
@@ -153,72 +155,85 @@ fn kept(words: &[i32]) -> bool {
 }
 
 // `left_out`: how many of the places that are reported written are as they were.
-fn answered(n: Numbers, left_out: usize, kept: bool) {
-    count(n.row, b", ");
+fn answered(rt: &HostRuntime, n: Numbers, left_out: usize, kept: bool) -> io::Result<()> {
+    count(rt, n.row, b", ")?;
     if left_out == 0 {
-        count(n.written, b" written, ");
+        count(rt, n.written, b" written, ")?;
     } else {
-        count(n.written, b" reported, ");
+        count(rt, n.written, b" reported, ")?;
     }
     if kept {
-        text(b"words kept, ");
+        text(rt, b"words kept, ")
     } else {
-        text(b"words changed, ");
+        text(rt, b"words changed, ")
     }
 }
 
-fn asked(name: &[u8], samples: usize, places: usize) {
-    text(name);
-    count(samples, b" samples, ");
-    count(places, b" places: ");
+fn asked(rt: &HostRuntime, name: &[u8], samples: usize, places: usize) -> io::Result<()> {
+    text(rt, name)?;
+    count(rt, samples, b" samples, ")?;
+    count(rt, places, b" places: ")
 }
 
 // What a call left: its answer, its words and its output.
-fn left(a: Answer, words: &[i32], out: &[i16]) {
+fn left(rt: &HostRuntime, a: Answer, words: &[i32], out: &[i16]) -> io::Result<()> {
     let n = counted(a);
-    answered(n, untouched(out, 0, n.written), kept(words));
-    count(behind(out, n.written), b" untouched\n");
+    answered(rt, n, untouched(out, 0, n.written), kept(words))?;
+    count(rt, behind(out, n.written), b" untouched\n")
 }
 
-fn down2(out: &mut [i16], input: &[i16]) {
-    asked(b"1/2 decimator, ", input.len(), out.len());
+fn down2(rt: &HostRuntime, out: &mut [i16], input: &[i16]) -> io::Result<()> {
+    asked(rt, b"1/2 decimator, ", input.len(), out.len())?;
     let h = stages::silk_resampler_down2([WORDS[0], WORDS[1]], out, input);
     let after = h.words;
     let answer = h.answer;
-    left(answer, &after, out);
+    left(rt, answer, &after, out)
 }
 
-fn down2_3(out: &mut [i16], input: &[i16]) {
-    asked(b"2/3 decimator, ", input.len(), out.len());
+fn down2_3(rt: &HostRuntime, out: &mut [i16], input: &[i16]) -> io::Result<()> {
+    asked(rt, b"2/3 decimator, ", input.len(), out.len())?;
     let h = stages::silk_resampler_down2_3(WORDS, out, input);
     let after = h.words;
     let answer = h.answer;
-    left(answer, &after, out);
+    left(rt, answer, &after, out)
 }
 
 // The same of two outputs.
-fn both_left(a: Answer, words: &[i32], low: &[i16], high: &[i16]) {
+fn both_left(
+    rt: &HostRuntime,
+    a: Answer,
+    words: &[i32],
+    low: &[i16],
+    high: &[i16],
+) -> io::Result<()> {
     let n = counted(a);
     let left_out = untouched(low, 0, n.written) | untouched(high, 0, n.written);
-    answered(n, left_out, kept(words));
-    count(behind(low, n.written), b" and ");
-    count(behind(high, n.written), b" untouched\n");
+    answered(rt, n, left_out, kept(words))?;
+    count(rt, behind(low, n.written), b" and ")?;
+    count(rt, behind(high, n.written), b" untouched\n")
 }
 
-fn split(low: &mut [i16], high: &mut [i16], input: &[i16]) {
-    text(b"split, ");
-    count(input.len(), b" samples, ");
-    count(low.len(), b" and ");
-    count(high.len(), b" places: ");
+fn split(rt: &HostRuntime, low: &mut [i16], high: &mut [i16], input: &[i16]) -> io::Result<()> {
+    text(rt, b"split, ")?;
+    count(rt, input.len(), b" samples, ")?;
+    count(rt, low.len(), b" and ")?;
+    count(rt, high.len(), b" places: ")?;
     let h = stages::silk_ana_filt_bank_1([WORDS[0], WORDS[1]], low, high, input);
     let after = h.words;
     let answer = h.answer;
-    both_left(answer, &after, low, high);
+    both_left(rt, answer, &after, low, high)
 }
 
 // The resampler's words are those of the doubler.
-fn resample(name: &[u8], inKhz: u8, outKhz: u8, out: &mut [i16], input: &[i16]) {
-    asked(name, input.len(), out.len());
+fn resample(
+    rt: &HostRuntime,
+    name: &[u8],
+    inKhz: u8,
+    outKhz: u8,
+    out: &mut [i16],
+    input: &[i16],
+) -> io::Result<()> {
+    asked(rt, name, input.len(), out.len())?;
     let s = Record {
         direction: 1,
         inKhz,
@@ -233,45 +248,59 @@ fn resample(name: &[u8], inKhz: u8, outKhz: u8, out: &mut [i16], input: &[i16]) 
     let after = r.record;
     let words = after.doubler;
     let answer = r.answer;
-    left(answer, &words, out);
+    left(rt, answer, &words, out)
 }
 
-fn run(entry: usize, out: &mut [i16], high: &mut [i16], input: &[i16]) {
+fn run(
+    rt: &HostRuntime,
+    entry: usize,
+    out: &mut [i16],
+    high: &mut [i16],
+    input: &[i16],
+) -> io::Result<()> {
     match entry {
-        0 => down2(out, input),
-        1 => split(out, high, input),
-        2 => down2_3(out, input),
-        3 => resample(b"8 to 16, ", 8, 16, out, input),
-        _ => resample(b"24 to 48, ", 24, 48, out, input),
+        0 => down2(rt, out, input),
+        1 => split(rt, out, high, input),
+        2 => down2_3(rt, out, input),
+        3 => resample(rt, b"8 to 16, ", 8, 16, out, input),
+        _ => resample(rt, b"24 to 48, ", 24, 48, out, input),
     }
 }
 
-fn call(entry: usize, samples: usize, places: usize, high_places: usize) {
+fn call(
+    rt: &HostRuntime,
+    entry: usize,
+    samples: usize,
+    places: usize,
+    high_places: usize,
+) -> io::Result<()> {
     if 48003 < samples {
-        return;
+        return Ok(());
     }
     if 48003 < places {
-        return;
+        return Ok(());
     }
     if 48003 < high_places {
-        return;
+        return Ok(());
     }
     let input = [SAMPLE; 48003];
     let mut out = [FILL; 48003];
     let mut high = [FILL; 48003];
     run(
+        rt,
         entry,
         &mut out[..places],
         &mut high[..high_places],
         &input[..samples],
-    );
+    )
 }
 
-fn main() {
+fn main(rt: HostRuntime) -> io::Result<()> {
     let mut i: usize = 0;
     while i < 63 {
         let c = CALLS[i];
-        call(c[0], c[1], c[2], c[3]);
+        call(&rt, c[0], c[1], c[2], c[3])?;
         i += 1;
     }
+    Ok(())
 }

@@ -1,5 +1,7 @@
 // Cases of one operation on words.
 use crate::file;
+use std::fs::File;
+use std::io;
 
 // A product; 0 where c is no coefficient.
 fn product(c: i32, y: i32) -> i32 {
@@ -33,12 +35,13 @@ fn operation(kind: i32, a: i32, b: i32) -> i32 {
     }
 }
 
-pub fn word_case(fd: i32, kind: i32) -> bool {
-    let a = file::number(fd);
+pub fn word_case(from: &mut File, kind: i32) -> io::Result<bool> {
+    let a = file::number(from)?;
     let mut b: i32 = 0;
     if kind != 2 {
-        b = file::number(fd);
+        b = file::number(from)?;
     }
     let got = operation(kind, a, b);
-    got == file::number(fd)
+    let want = file::number(from)?;
+    Ok(got == want)
 }

@@ -5,6 +5,8 @@ ghost use Rattle.replay.specs.Small.{Small};
 
 use crate::{file, runs};
 use stages::{DownPass, DownWords, IirFirWords, Rates, rom};
+use std::fs::File;
+use std::io;
 
 // A number that is one of 1 to `most`; 1 where it is another.
 fn within(x: i32, most: usize) -> usize
@@ -82,7 +84,13 @@ fn iir_fir_words(given: &[i32; 48]) -> IirFirWords
     IirFirWords { doubler, samples }
 }
 
-fn iir_fir_pass(fd: i32, r: Rates, given: &[i32; 48], out: &mut [i16], input: &[i16]) -> bool
+fn iir_fir_pass(
+    from: &mut File,
+    r: Rates,
+    given: &[i32; 48],
+    out: &mut [i16],
+    input: &[i16],
+) -> io::Result<bool>
     requires steady { Steady (2 * r.inKhz) r × (r.inKhz ≤ 16) }
     requires in_khz_len { (length input.now % r.inKhz ≡ 0) × (outputs r (length input.now) ≤ length out.old) }
 {
@@ -91,18 +99,24 @@ fn iir_fir_pass(fd: i32, r: Rates, given: &[i32; 48], out: &mut [i16], input: &[
     let after = q.words;
     let d = after.doubler;
     let x = after.samples;
-    runs::same_written(fd, q.written, 2, out, &d) & file::same_samples(fd, &x)
+    let outputs = runs::same_written(from, q.written, 2, out, &d)?;
+    Ok(outputs & file::same_samples(from, &x)?)
 }
 
-pub fn iir_fir(fd: i32, given: &[i32; 48], out: &mut [i16], input: &[i16]) -> bool {
+pub fn iir_fir(
+    from: &mut File,
+    given: &[i32; 48],
+    out: &mut [i16],
+    input: &[i16],
+) -> io::Result<bool> {
     let r = rates(given, 0);
     if 16 < r.inKhz {
-        return false;
+        return Ok(false);
     }
     if takes(r, 2 * r.inKhz, input.len(), out.len()) {
-        return iir_fir_pass(fd, r, given, out, input);
+        return iir_fir_pass(from, r, given, out, input);
     }
-    false
+    Ok(false)
 }
 
 fn order(which: i32) -> usize
@@ -191,7 +205,13 @@ fn down(which: i32, r: Rates, s: DownWords, out: &mut [i16], input: &[i16]) -> D
     }
 }
 
-fn down_fir_pass(fd: i32, r: Rates, given: &[i32; 48], out: &mut [i16], input: &[i16]) -> bool
+fn down_fir_pass(
+    from: &mut File,
+    r: Rates,
+    given: &[i32; 48],
+    out: &mut [i16],
+    input: &[i16],
+) -> io::Result<bool>
     requires steady { Steady r.inKhz r × (r.outKhz ≤ 16) }
     requires in_khz_len { (length input.now % r.inKhz ≡ 0) × (outputs r (length input.now) ≤ length out.old) }
 {
@@ -201,16 +221,22 @@ fn down_fir_pass(fd: i32, r: Rates, given: &[i32; 48], out: &mut [i16], input: &
     let after = q.words;
     let a = after.ar2;
     let f = after.fir;
-    runs::same_written(fd, q.written, 2, out, &a) & file::same(fd, n, &f)
+    let outputs = runs::same_written(from, q.written, 2, out, &a)?;
+    Ok(outputs & file::same(from, n, &f)?)
 }
 
-pub fn down_fir(fd: i32, given: &[i32; 48], out: &mut [i16], input: &[i16]) -> bool {
+pub fn down_fir(
+    from: &mut File,
+    given: &[i32; 48],
+    out: &mut [i16],
+    input: &[i16],
+) -> io::Result<bool> {
     let r = rates(given, 1);
     if 16 < r.outKhz {
-        return false;
+        return Ok(false);
     }
     if takes(r, r.inKhz, input.len(), out.len()) {
-        return down_fir_pass(fd, r, given, out, input);
+        return down_fir_pass(from, r, given, out, input);
     }
-    false
+    Ok(false)
 }

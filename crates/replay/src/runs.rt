@@ -4,25 +4,39 @@ ghost use Rattle.std.specs.Prelude.{◌≡◌, ◌<◌, ◌≤◌, nat_abs, leng
 
 use crate::{file, readers};
 use stages::Answer;
+use std::fs::File;
+use std::io;
 
 // What a place of an output holds before a call.
 pub const UNTOUCHED: i16 = 12345;
 
 // Whether all places but so many are reported written, and the next numbers are the output and these words.
-pub fn same_written(fd: i32, written: usize, spare: usize, out: &[i16], words: &[i32]) -> bool {
+pub fn same_written(
+    from: &mut File,
+    written: usize,
+    spare: usize,
+    out: &[i16],
+    words: &[i32],
+) -> io::Result<bool> {
     if out.len() < written {
-        return false;
+        return Ok(false);
     }
     if out.len() - written != spare {
-        return false;
+        return Ok(false);
     }
-    file::same_run(fd, out, words)
+    file::same_run(from, out, words)
 }
 
-fn same_done(fd: i32, a: Answer, spare: usize, out: &[i16], words: &[i32]) -> bool {
+fn same_done(
+    from: &mut File,
+    a: Answer,
+    spare: usize,
+    out: &[i16],
+    words: &[i32],
+) -> io::Result<bool> {
     match a {
-        Answer::Done { written } => same_written(fd, written, spare, out, words),
-        Answer::Refused(_) => false,
+        Answer::Done { written } => same_written(from, written, spare, out, words),
+        Answer::Refused(_) => Ok(false),
     }
 }
 
@@ -57,10 +71,10 @@ pub fn six(given: &[i32; 48], at: usize) -> [i32; 6]
     ]
 }
 
-fn ar2(fd: i32, given: &[i32; 48], input: &[i16]) -> bool {
+fn ar2(from: &mut File, given: &[i32; 48], input: &[i16]) -> io::Result<bool> {
     let n = input.len();
     if 1024 < n {
-        return false;
+        return Ok(false);
     }
     let a = [tap(given, 0), tap(given, 1)];
     let mut out = [0i32; 1024];
@@ -70,58 +84,64 @@ fn ar2(fd: i32, given: &[i32; 48], input: &[i16]) -> bool {
         input,
         &a,
     );
-    let outputs = file::same(fd, n, &out);
-    outputs & file::same(fd, 2, &after)
+    let outputs = file::same(from, n, &out)?;
+    Ok(outputs & file::same(from, 2, &after)?)
 }
 
-fn down2(fd: i32, given: &[i32; 48], out: &mut [i16], input: &[i16]) -> bool {
+fn down2(from: &mut File, given: &[i32; 48], out: &mut [i16], input: &[i16]) -> io::Result<bool> {
     let h = stages::silk_resampler_down2([word(given, 0), word(given, 1)], out, input);
     let after = h.words;
     let answer = h.answer;
-    same_done(fd, answer, 0, out, &after)
+    same_done(from, answer, 0, out, &after)
 }
 
-fn split(fd: i32, given: &[i32; 48], low: &mut [i16], high: &mut [i16], input: &[i16]) -> bool {
+fn split(
+    from: &mut File,
+    given: &[i32; 48],
+    low: &mut [i16],
+    high: &mut [i16],
+    input: &[i16],
+) -> io::Result<bool> {
     let h = stages::silk_ana_filt_bank_1([word(given, 0), word(given, 1)], low, high, input);
     let after = h.words;
     let answer = h.answer;
-    let lows = file::same_samples(fd, low);
-    lows & same_done(fd, answer, 0, high, &after)
+    let lows = file::same_samples(from, low)?;
+    Ok(lows & same_done(from, answer, 0, high, &after)?)
 }
 
-fn down2_3(fd: i32, given: &[i32; 48], out: &mut [i16], input: &[i16]) -> bool {
+fn down2_3(from: &mut File, given: &[i32; 48], out: &mut [i16], input: &[i16]) -> io::Result<bool> {
     let h = stages::silk_resampler_down2_3(six(given, 0), out, input);
     let after = h.words;
     let answer = h.answer;
-    same_done(fd, answer, 2, out, &after)
+    same_done(from, answer, 2, out, &after)
 }
 
-fn up2(fd: i32, given: &[i32; 48], out: &mut [i16], input: &[i16]) -> bool {
+fn up2(from: &mut File, given: &[i32; 48], out: &mut [i16], input: &[i16]) -> io::Result<bool> {
     // Two places for each sample, and two more.
     if out.len() / 2 != input.len() + 1 {
-        return false;
+        return Ok(false);
     }
     let after = stages::silk_resampler_private_up2_HQ(six(given, 0), out, input);
-    file::same_run(fd, out, &after)
+    file::same_run(from, out, &after)
 }
 
 fn run(
-    fd: i32,
+    from: &mut File,
     kind: i32,
     given: &[i32; 48],
     out: &mut [i16],
     high: &mut [i16],
     input: &[i16],
-) -> bool {
+) -> io::Result<bool> {
     match kind {
-        5 => ar2(fd, given, input),
-        6 => down2(fd, given, out, input),
-        7 => split(fd, given, out, high, input),
-        8 => down2_3(fd, given, out, input),
-        9 => up2(fd, given, out, input),
-        10 => readers::iir_fir(fd, given, out, input),
-        11 => readers::down_fir(fd, given, out, input),
-        _ => false,
+        5 => ar2(from, given, input),
+        6 => down2(from, given, out, input),
+        7 => split(from, given, out, high, input),
+        8 => down2_3(from, given, out, input),
+        9 => up2(from, given, out, input),
+        10 => readers::iir_fir(from, given, out, input),
+        11 => readers::down_fir(from, given, out, input),
+        _ => Ok(false),
     }
 }
 
@@ -133,20 +153,20 @@ fn high_places(kind: i32, m: usize) -> usize
 }
 
 // A case of n samples and m places of output, of which the last ones are the high band's in the split.
-pub fn run_case(fd: i32, kind: i32, given: usize, n: usize, m: usize) -> bool
+pub fn run_case(from: &mut File, kind: i32, given: usize, n: usize, m: usize) -> io::Result<bool>
     requires { (n ≤ 1024) × (m ≤ 1024) }
 {
     if 48 < given {
-        return false;
+        return Ok(false);
     }
-    let numbers = file::numbers(fd, given);
-    let input = file::samples(fd, n);
+    let numbers = file::numbers(from, given)?;
+    let input = file::samples(from, n)?;
     let h = high_places(kind, m);
     let l = m - h;
     let mut out = [UNTOUCHED; 1024];
     let mut high = [UNTOUCHED; 1024];
     run(
-        fd,
+        from,
         kind,
         &numbers,
         &mut out[..l],
