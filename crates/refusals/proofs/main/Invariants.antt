@@ -1,0 +1,10 @@
+-- `refusals::main` is safe and ends: i stays within the table.
+-- Assumes nothing.
+use Prim.Native.Nat.{◌≤◌, ◌-◌}
+use Rattle.refusals.proofs.main.Given as goal
+
+abbrev pub invariant-loop-i : goal.invariant-loop-i
+invariant-loop-i l = l.i ≤ 63
+
+abbrev pub decreases-loop-i : goal.decreases-loop-i
+decreases-loop-i l = 63 - l.i
