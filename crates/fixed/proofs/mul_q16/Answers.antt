@@ -1,7 +1,8 @@
 -- `fixed::mul_q16` meets its contract: widening keeps the coefficient, and its bound with it.
 -- Assumes nothing.
-use borrow.Author.Rules.{rules}
+use mathlib.Core.Path.{◌∙◌}
 use mir.Syntax.{w32, w64}
+use Rattle.fixed.specs.Fixed.{times}
 use Rattle.fixed.proofs.Laws.Fit.{back, cast, widen}
 use Rattle.fixed.proofs.mul_q16.Goals as goal
 
@@ -10,6 +11,6 @@ mul_wide-requires c = rw (cast w32 w64 tt c.ranges.c) c.requires
 
 pub returns : goal.returns
 returns c =
-    let s = c.before in
-    let m = c.mul_wide in
-    cc (back w32 m.result m.type_inv, cast w32 w64 tt s.ranges.c, back w32 s.args.y s.ranges.y.sfits)
+    let k = cast w32 w64 tt c.ranges.c in
+    let y = back w32 c.args.y c.ranges.y.sfits in
+    back w32 c.mul_wide.result c.mul_wide.type_inv ∙ c.mul_wide.ensures ∙ (λ i. times (k i) (y i))
