@@ -1,5 +1,5 @@
 -- The arithmetic of the stages, over the integers: sums that wrap, products rounded down, narrowing with clipping.
--- Cited by src/fixed.rt. Assumes nothing.
+-- Cited by src/lib.rt. Assumes nothing.
 use Rattle.std.specs.Prelude.{if◌then◌else◌, ℕ, ◌-◌, ◌^◌, ℤ, pos, negsuc, ◌+ℤ◌, ◌-ℤ◌, ◌*ℤ◌}
 use Rattle.std.specs.Int.Signed.{shr_z, lt_z}
 

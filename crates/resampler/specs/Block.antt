@@ -1,6 +1,6 @@
 -- The parked block: a record as 512 bytes, little-endian, both ways, and the outcomes of parking and resuming. Assumes nothing.
-use Rattle.std.specs.Prelude.{if◌then◌else◌, ℕ, zero, suc, ◌+◌, ◌*◌, ◌-◌, ◌/◌, ◌%◌, ◌^◌, Bool, false, not, ◌&&◌, ltb, eqb, ℤ, pos, negsuc, length, take, drop, get_or, replicate}
-use mathlib.Core.List.{List, [], ◌∷◌, ◌++◌, flat_map}
+use Rattle.std.specs.Prelude.{if◌then◌else◌, ℕ, ◌+◌, ◌*◌, Bool, false, not, ◌&&◌, eqb, ℤ, pos, negsuc, length, take, drop, get_or, replicate}
+use mathlib.Core.List.{List, [], ◌∷◌, ◌++◌}
 use Rattle.little_endian.specs.Bytes.{bytes, value, laid, words_at}
 use Rattle.filters.specs.Lists.{every}
 use Rattle.stages.specs.declared.answer.Answer.TheVariants.{Done}

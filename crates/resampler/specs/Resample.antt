@@ -93,7 +93,7 @@ pub record Lowered (g : Filter) (r : Rates) (w : DownWords) (xs ys before after 
 
 -- ---- a call
 
--- the carried delay samples followed by the input: as many as the input are filtered, the others are carried on
+-- the delay samples that were carried, and behind them the input: as many as the input has are filtered, the others go on
 unfoldable pub signal : Record → List ℤ → List ℤ
 signal s xs = live_delay s ++ xs
 

@@ -128,8 +128,8 @@ fn batch(
     }
 }
 
-// A pass over whole milliseconds, in batches of at most 10: each is the part of the input that starts where the last one
-// ended, and what is left of the output is lent on to it. Of the words given only the live ones are read; of those returned
+// A pass over whole milliseconds, in batches of at most 10: each takes the samples behind those of the last, and is lent
+// what the last left of the output. Of the words given only the live ones are read; of those returned
 // the others are zero.
 pub fn silk_resampler_private_down_FIR(
     r: Rates,

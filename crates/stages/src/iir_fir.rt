@@ -106,8 +106,8 @@ fn batch(r: Rates, s: IirFirWords, out: &mut [i16], input: &[i16]) -> IirFirPass
     }
 }
 
-// A pass over whole milliseconds, in batches of at most 10: each is the part of the input that starts where the last one
-// ended, and what is left of the output is lent on to it.
+// A pass over whole milliseconds, in batches of at most 10: each takes the samples behind those of the last, and is lent
+// what the last left of the output.
 pub fn silk_resampler_private_IIR_FIR(
     r: Rates,
     s: IirFirWords,

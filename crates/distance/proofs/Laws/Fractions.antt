@@ -1,6 +1,6 @@
 -- Fractions as numerators over one power: a sum, a difference and a part of such are such again. Assumes nothing.
 use mathlib.Core.Path.{◌≡◌, sym, ap, ◌∙◌}
-use Prim.Native.Nat.{ℕ, ◌+◌, ◌*◌, ◌<◌}
+use Prim.Native.Nat.{ℕ, ◌*◌, ◌<◌}
 use native.Mathlib.Nat.{mul-pos}
 use native.Mathlib.Omega.{arith}
 use lib.IntN.{ℤ, pos, ◌+ℤ◌, ◌-ℤ◌, ◌*ℤ◌}

@@ -2,7 +2,7 @@
 use mathlib.Core.Path.{◌≡◌, refl, ap, subst, ◌∙◌}
 use mathlib.Core.Bool.{true}
 use mathlib.Core.List.{List, [], ◌∷◌, ◌++◌, map}
-use Prim.Native.Nat.{ℕ, ◌+◌, ◌*◌, ◌<◌, ◌≤◌}
+use Prim.Native.Nat.{ℕ, ◌*◌, ◌<◌, ◌≤◌}
 use native.Mathlib.Omega.{arith}
 use borrow.Author.Tests.{ltb-true}
 use lib.IntN.{ℤ, pos, negsuc, nat_abs, ◌-ℤ◌, ◌*ℤ◌}
@@ -16,7 +16,7 @@ use Rattle.filters.specs.Rom.{silk_resampler_up2_hq_0, silk_resampler_up2_hq_1}
 use Rattle.filters.specs.Section.{scaled, row_next}
 use Rattle.filters.specs.Stage.Up2Hq.{up2_even, up2_odd, up2_raw, up2_out, up2_next, up2_end}
 use Rattle.filters.proofs.Laws.Lists.{both_true}
-use Rattle.distance.specs.Exact.{Fraction, whole, through_next, exact_out, exact_next, exact_both, exact_words, exact}
+use Rattle.distance.specs.Exact.{Fraction, whole, through_next, exact_out, exact_next, exact_both, exact_words}
 use Rattle.distance.specs.Distance.{Matched, sample?}
 use Rattle.distance.specs.Claims.{Close, CloseRounded, fresh, plain_raw, plain_words, bounds as sizes}
 use Rattle.distance.proofs.Laws.Near.{Near, Bounds, RowNear, tests, row_out-near, row_next-near, row-lengths, row_plain, row-sizes}

@@ -33,7 +33,7 @@ rd {w} e f = to_z-of_z (subst (SFits w) (sym e) f) ∙ e
 pub fit : {w : Width} {x z : ℤ} → x ≡ z → SFits w z → SFits w x
 fit {w} e f = subst (SFits w) (sym e) f
 
--- a cast to a wider type: `search (needs, widen)`, `widen16`; and what it gives
+-- a cast to a wider type: `search (rules, widen)`, `widen16`; and what it gives
 pub widen : {x : ℤ} → SFits w32 x → SFits w64 x
 widen f = sfits_widen tt f
 

@@ -3,7 +3,7 @@
 use mathlib.Core.Path.{◌∙◌}
 use mir.Syntax.{w32, w64}
 use Rattle.fixed.specs.Fixed.{times}
-use Rattle.fixed.proofs.Laws.Fit.{back, cast, widen}
+use Rattle.fixed.proofs.Laws.Fit.{back, cast}
 use Rattle.fixed.proofs.mul_q16.Goals as goal
 
 pub mul_wide-requires : goal.mul_wide-requires

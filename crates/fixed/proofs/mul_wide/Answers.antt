@@ -1,6 +1,5 @@
 -- `fixed::mul_wide` meets its contract: the product fits 64 bits and its floor fits the word, since |c| < 65536.
 -- Assumes nothing.
-use borrow.Author.Rules.{rules}
 use mathlib.Core.Path.{◌≡◌, ap}
 use lib.IntN.{ℤ, ◌*ℤ◌}
 use lib.Signed.{shr_z}

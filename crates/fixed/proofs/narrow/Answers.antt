@@ -1,6 +1,5 @@
 -- `fixed::narrow` meets its contract: half of (x >> (n - 1)) + 1 is x / 2^n rounded, and no step leaves the word.
 -- Assumes nothing.
-use borrow.Author.Rules.{rules}
 use mathlib.Core.Path.{◌≡◌, sym, ap, ◌∙◌}
 use Prim.Native.Nat.{ℕ, suc, ◌*◌, ◌-◌, ◌^◌, ◌<◌}
 use native.Mathlib.Omega.{arith}

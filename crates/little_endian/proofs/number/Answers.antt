@@ -1,9 +1,8 @@
--- `bytes::number` meets its contract: from the high byte down, each turn puts one more below the number.
+-- `little_endian::number` meets its contract: from the high byte down, each turn puts one more below the number.
 -- Assumes nothing.
 use Prim.Native.Nat.{◌+◌, ◌-◌}
 use native.Mathlib.Omega.{arith}
-use borrow.Author.Rules.{rules}
-use Rattle.little_endian.proofs.Laws.Bytes.{Read, read-start, read-room, read-turn, read-end}
+use Rattle.little_endian.proofs.Laws.Bytes.{read-start, read-room, read-turn, read-end}
 use Rattle.little_endian.proofs.number.Goals as goal
 
 pub loop-i-init : goal.loop-i-init

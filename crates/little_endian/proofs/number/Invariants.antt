@@ -1,9 +1,6 @@
--- `bytes::number` meets its contract: from the high byte down, each turn puts one more below the number.
+-- `little_endian::number` meets its contract: from the high byte down, each turn puts one more below the number.
 -- Assumes nothing.
-use Prim.Native.Nat.{◌+◌, ◌-◌}
-use native.Mathlib.Omega.{arith}
-use borrow.Author.Rules.{rules}
-use Rattle.little_endian.proofs.Laws.Bytes.{Read, read-start, read-room, read-turn, read-end}
+use Rattle.little_endian.proofs.Laws.Bytes.{Read}
 use Rattle.little_endian.proofs.number.Given as goal
 
 abbrev pub invariant-loop-i : goal.invariant-loop-i

@@ -1,15 +1,11 @@
--- `bytes::put` meets its contract: at each turn what is put and the bytes of what is left are the whole.
+-- `little_endian::put` meets its contract: at each turn what is put and the bytes of what is left are the whole.
 -- Assumes nothing.
 use Prim.Native.Nat.{◌+◌, ◌-◌, ◌≤◌}
-use mathlib.Core.Path.{◌≡◌, refl}
+use mathlib.Core.Path.{◌≡◌}
 use mathlib.Core.List.{◌++◌}
-use native.Mathlib.Omega.{arith}
-use borrow.Author.Rules.{rules}
 use lib.ListN.{length, take}
-use Rattle.stages.proofs.Laws.Loop.{Filling, fill_one}
+use Rattle.stages.proofs.Laws.Loop.{Filling}
 use Rattle.little_endian.specs.Bytes.{bytes}
-use Rattle.little_endian.proofs.Laws.Bytes.{bytes-length, bytes_next, bytes-none}
-use Rattle.little_endian.proofs.Laws.Place.{place-start, place_end}
 use Rattle.little_endian.proofs.put.Given as goal
 
 abbrev pub invariant-loop-i : goal.invariant-loop-i

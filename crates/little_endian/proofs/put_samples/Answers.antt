@@ -1,15 +1,12 @@
--- `bytes::put_samples` meets its contract: at each turn what is put and what is left are the whole.
+-- `little_endian::put_samples` meets its contract: at each turn what is put and what is left are the whole.
 -- Assumes nothing.
-use Prim.Native.Nat.{◌-◌}
 use mathlib.Core.Path.{ap, ◌∙◌}
 use native.Mathlib.Omega.{arith}
-use borrow.Author.Rules.{rules}
-use lib.ListN.{length}
 use mir.Syntax.{w16}
 use Rattle.fixed.proofs.Laws.Fit.{back}
 use Rattle.filters.specs.Lists.{◌!◌}
 use Rattle.little_endian.specs.Bytes.{bits_of}
-use Rattle.little_endian.proofs.Laws.Laying.{Laying, lay-start, lay-room, lay-turn, lay-end}
+use Rattle.little_endian.proofs.Laws.Laying.{lay-start, lay-room, lay-turn, lay-end}
 use Rattle.little_endian.proofs.put_samples.Goals as goal
 
 pub loop-j-init : goal.loop-j-init

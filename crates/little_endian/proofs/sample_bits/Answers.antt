@@ -1,4 +1,4 @@
--- `bytes::sample_bits` meets its contract: below zero the complement is what the bits lack of all ones.
+-- `little_endian::sample_bits` meets its contract: below zero the complement is what the bits lack of all ones.
 -- Assumes nothing.
 use mathlib.Core.Path.{refl}
 use native.Mathlib.Omega.{arith}

@@ -1,8 +1,7 @@
--- `bytes::word` meets its contract: below the half the bits are the number itself, and from it up
+-- `little_endian::word` meets its contract: below the half the bits are the number itself, and from it up
 -- the complement of what they lack. Assumes nothing.
 use mathlib.Core.Path.{refl}
 use native.Mathlib.Omega.{arith}
-use borrow.Author.Rules.{rules}
 use mir.Syntax.{w32}
 use Rattle.little_endian.proofs.Laws.Bytes.{word-is, word-high}
 use Rattle.little_endian.proofs.word.Goals as goal

@@ -1,6 +1,5 @@
 -- `probes::down` meets its contract: what fits is what the filter asks.
 -- Assumes nothing.
-use borrow.Author.Rules.{rules}
 use Rattle.probes.proofs.down.Goals as goal
 
 pub silk_resampler_private_down_FIR-q-requires : goal.silk_resampler_private_down_FIR-q-requires

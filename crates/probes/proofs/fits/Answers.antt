@@ -4,7 +4,6 @@ use mathlib.Core.Path.{sym, subst}
 use Prim.Native.Nat.{◌/◌, ◌≤◌}
 use native.Mathlib.Nat.{mul-le-mul_right, div-add-mod'}
 use native.Mathlib.Omega.{arith}
-use borrow.Author.Rules.{rules}
 use borrow.Author.Tests.{leb-true}
 use lib.Dec.{T}
 use Rattle.probes.proofs.fits.Goals as goal

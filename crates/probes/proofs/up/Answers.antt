@@ -1,6 +1,5 @@
 -- `probes::up` meets its contract: what fits is what the interpolator asks.
 -- Assumes nothing.
-use borrow.Author.Rules.{rules}
 use Rattle.probes.proofs.up.Goals as goal
 
 pub silk_resampler_private_IIR_FIR-q-requires : goal.silk_resampler_private_IIR_FIR-q-requires

@@ -11,7 +11,7 @@ use Rattle.filters.specs.Stage.IirFir.{iir_fir_batch}
 use Rattle.filters.specs.Stage.DownFir.{down_batch}
 use Rattle.filters.proofs.Laws.Lengths.{up2-length, iir_fir_batch-length, down_batch-length}
 use Rattle.stages.proofs.Laws.Pass as Pass
-use Rattle.resampler.specs.Pairs.{Pair, doubler, path, filter}
+use Rattle.resampler.specs.Pairs.{Pair, path, filter}
 use Rattle.resampler.specs.Record.{Words}
 use Rattle.resampler.specs.Resample.{rates_of, made, on_path, batch_out, batch_next, pass}
 use Rattle.resampler.proofs.Laws.Passes.{unused, copied, doubled}

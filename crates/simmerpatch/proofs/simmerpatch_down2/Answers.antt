@@ -1,6 +1,5 @@
 -- `simmerpatch::simmerpatch_down2` meets its contract: words and samples are those of the 1/2 decimator, and the two numbers its answer's.
 -- Assumes nothing.
-use borrow.Author.Rules.{rules}
 use Rattle.simmerpatch.proofs.Laws.Told.{told}
 use Rattle.simmerpatch.proofs.simmerpatch_down2.Goals as goal
 

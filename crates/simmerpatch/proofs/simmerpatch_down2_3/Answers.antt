@@ -1,7 +1,6 @@
 -- `simmerpatch::simmerpatch_down2_3` meets its contract: words and samples are those of the 2/3 decimator, and the two numbers its answer's.
 -- Assumes nothing.
 use mathlib.Core.Path.{refl}
-use borrow.Author.Rules.{rules}
 use Rattle.simmerpatch.proofs.Laws.Told.{told}
 use Rattle.simmerpatch.proofs.simmerpatch_down2_3.Goals as goal
 

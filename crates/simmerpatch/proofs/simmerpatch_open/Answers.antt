@@ -1,7 +1,6 @@
 -- `simmerpatch::simmerpatch_open` meets its contract: the record is the one that opening returns, and the two numbers its answer's.
 -- Assumes nothing.
 use mathlib.Core.Path.{◌∙◌}
-use borrow.Author.Rules.{rules}
 use mir.Syntax.{w32}
 use Rattle.fixed.proofs.Laws.Fit.{back}
 use Rattle.resampler.specs.Entry.{open_outcome}

@@ -1,6 +1,5 @@
 -- `simmerpatch::simmerpatch_park` meets its contract: the block is the one that parking writes, and the two numbers its answer's.
 -- Assumes nothing.
-use borrow.Author.Rules.{rules}
 use Rattle.simmerpatch.proofs.Laws.Told.{told}
 use Rattle.simmerpatch.proofs.simmerpatch_park.Goals as goal
 

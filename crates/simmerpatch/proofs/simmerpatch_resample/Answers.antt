@@ -1,6 +1,5 @@
 -- `simmerpatch::simmerpatch_resample` meets its contract: the record and the samples are those of the resampler, and the two numbers its answer's.
 -- Assumes nothing.
-use borrow.Author.Rules.{rules}
 use Rattle.simmerpatch.proofs.Laws.Told.{told}
 use Rattle.simmerpatch.proofs.simmerpatch_resample.Goals as goal
 

@@ -1,6 +1,5 @@
 -- `simmerpatch::simmerpatch_resume` meets its contract: the record is the one that resuming returns, and the two numbers its answer's.
 -- Assumes nothing.
-use borrow.Author.Rules.{rules}
 use Rattle.simmerpatch.proofs.Laws.Told.{told}
 use Rattle.simmerpatch.proofs.simmerpatch_resume.Goals as goal
 

@@ -1,6 +1,5 @@
 -- `simmerpatch::simmerpatch_split` meets its contract: words and bands are those of the split, and the two numbers its answer's.
 -- Assumes nothing.
-use borrow.Author.Rules.{rules}
 use Rattle.simmerpatch.proofs.Laws.Told.{told}
 use Rattle.simmerpatch.proofs.simmerpatch_split.Goals as goal
 

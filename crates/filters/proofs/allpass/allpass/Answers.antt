@@ -1,7 +1,6 @@
 -- `filters::allpass::allpass` meets its contract: each leaf wraps as the definition does.
 -- Assumes nothing.
 use mathlib.Core.Path.{◌∙◌}
-use borrow.Author.Rules.{rules}
 use lib.IntN.{◌+ℤ◌, ◌-ℤ◌}
 use mir.Syntax.{w32}
 use Rattle.fixed.specs.Fixed.{wrapped, times}

@@ -2,7 +2,6 @@
 -- Assumes nothing.
 use mathlib.Core.Path.{ap, ◌∙◌}
 use mathlib.Core.List.{[], ◌∷◌}
-use borrow.Author.Rules.{rules}
 use mir.Syntax.{w16, w32}
 use Rattle.filters.specs.Section.{scaled, section_out, section_next, even_out, odd_out, halves_next}
 use Rattle.fixed.proofs.Laws.Fit.{back}

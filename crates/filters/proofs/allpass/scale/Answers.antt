@@ -1,11 +1,10 @@
 -- `filters::allpass::scale` meets its contract: 1024 times a sample fits the word.
 -- Assumes nothing.
-use borrow.Author.Rules.{rules}
 use mathlib.Core.Path.{ap}
 use native.Mathlib.Omega.{arith}
 use lib.IntN.{pos, ◌*ℤ◌}
 use mir.Syntax.{w16, w32}
-use Rattle.fixed.proofs.Laws.Fit.{cast, rd, fit, widen16, scale-fits}
+use Rattle.fixed.proofs.Laws.Fit.{cast, rd, fit, scale-fits}
 use Rattle.filters.proofs.allpass.scale.Goals as goal
 
 pub overflow_mul-result : goal.overflow_mul-result

@@ -2,7 +2,6 @@
 -- Assumes nothing.
 use mathlib.Core.Path.{ap, ◌∙◌}
 use mathlib.Core.List.{[], ◌∷◌}
-use borrow.Author.Rules.{rules}
 use lib.IntN.{◌+ℤ◌, ◌-ℤ◌}
 use mir.Syntax.{w16, w32}
 use Rattle.fixed.specs.Fixed.{wrapped, narrowed}

@@ -3,7 +3,6 @@
 use mathlib.Core.Path.{◌∙◌, ap}
 use mathlib.Core.List.{[], ◌∷◌}
 use native.Mathlib.Omega.{arith}
-use borrow.Author.Rules.{rules}
 use mir.Syntax.{w16, w32}
 use Rattle.filters.specs.Lists.{◌!◌}
 use Rattle.filters.specs.Run.{run, end}

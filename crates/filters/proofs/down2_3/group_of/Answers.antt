@@ -3,7 +3,6 @@
 use mathlib.Core.Path.{sym, ◌∙◌}
 use mathlib.Core.List.{[], ◌∷◌}
 use native.Mathlib.Omega.{arith}
-use borrow.Author.Rules.{rules}
 use mir.Syntax.{w16, w32}
 use Rattle.fixed.specs.Fixed.{narrowed}
 use Rattle.filters.specs.Lists.{◌!◌}

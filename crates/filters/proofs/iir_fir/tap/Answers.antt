@@ -1,11 +1,10 @@
 -- `filters::iir_fir::tap` meets its contract: the product of a small tap and a sample fits the word, and the sum wraps.
 -- Assumes nothing.
 use mathlib.Core.Path.{◌≡◌, ◌∙◌}
-use borrow.Author.Rules.{rules}
 use lib.IntN.{◌+ℤ◌, ◌*ℤ◌}
 use mir.Syntax.{w16, w32}
 use Rattle.fixed.specs.Fixed.{wrapped}
-use Rattle.fixed.proofs.Laws.Fit.{at, back, rd, fit, cast, widen16, sample-fits}
+use Rattle.fixed.proofs.Laws.Fit.{at, back, rd, fit, cast, sample-fits}
 use Rattle.filters.proofs.iir_fir.tap.Goals as goal
 
 product : (c : goal.Start) → at w32 c.args.c *ℤ at w32 (at w16 c.args.x) ≡ c.args.c *ℤ c.args.x

@@ -3,7 +3,6 @@
 use mathlib.Core.Path.{◌∙◌}
 use Prim.Native.Nat.{◌+◌}
 use native.Mathlib.Omega.{arith}
-use borrow.Author.Rules.{rules}
 use lib.IntN.{◌+ℤ◌, ◌*ℤ◌}
 use mir.Syntax.{w16, w32}
 use Rattle.fixed.specs.Fixed.{wrapped}

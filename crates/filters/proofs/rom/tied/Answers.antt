@@ -1,6 +1,5 @@
 -- `filters::rom::tied` meets its contract: each table computes to its definition, entry by entry.
 -- Assumes nothing.
-use borrow.Author.Rules.{rules}
 use mathlib.Core.Path.{refl}
 use Rattle.filters.specs.Rom as Rom
 use Rattle.filters.proofs.rom.tied.Goals as goal

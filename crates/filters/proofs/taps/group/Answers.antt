@@ -3,7 +3,6 @@
 use mathlib.Core.Path.{◌∙◌}
 use mathlib.Core.List.{[], ◌∷◌}
 use Prim.Native.Nat.{◌+◌}
-use borrow.Author.Rules.{rules}
 use mir.Syntax.{w32}
 use Rattle.fixed.specs.Fixed.{times}
 use Rattle.filters.specs.Lists.{◌!◌}

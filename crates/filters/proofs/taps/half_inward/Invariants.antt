@@ -1,19 +1,12 @@
 -- `filters::taps::half_inward` meets its contract: after k taps the sum is the definition's over the first k.
 -- Assumes nothing.
-use mathlib.Core.Path.{◌≡◌, refl, ◌∙◌}
-use Prim.Native.Nat.{◌+◌, ◌-◌, ◌/◌, ◌%◌, ◌≤◌}
-use native.Mathlib.Omega.{arith}
-use borrow.Author.Rules.{rules}
+use mathlib.Core.Path.{◌≡◌}
+use Prim.Native.Nat.{◌-◌, ◌/◌, ◌%◌, ◌≤◌}
 use lib.IntN.{pos}
 use lib.ListN.{take, drop}
-use mir.Syntax.{w32}
-use mir.Val.{to_z}
 use Rattle.fixed.specs.Fixed.{times}
 use Rattle.filters.specs.Reader.{sum}
 use Rattle.filters.specs.Stage.DownFir.{outer_sums}
-use Rattle.fixed.proofs.Laws.Fit.{back}
-use Rattle.filters.proofs.Laws.Lengths.{outer_sums-length}
-use Rattle.filters.proofs.Laws.Dot.{sum_more}
 use Rattle.filters.proofs.taps.half_inward.Given as goal
 
 abbrev pub invariant-loop-k : goal.invariant-loop-k

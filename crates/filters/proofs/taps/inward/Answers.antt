@@ -4,7 +4,6 @@ use mathlib.Core.Path.{◌∙◌, sym}
 use mathlib.Core.List.{[], ◌∷◌}
 use Prim.Native.Nat.{◌+◌}
 use native.Mathlib.Omega.{arith}
-use borrow.Author.Rules.{rules}
 use lib.ListN.{drop}
 use mir.Syntax.{w32}
 use Rattle.fixed.specs.Fixed.{times}

@@ -1,6 +1,5 @@
 -- `filters::taps::tap` meets its contract: the product fits, and the sum wraps.
 -- Assumes nothing.
-use borrow.Author.Rules.{rules}
 use mathlib.Core.Path.{◌∙◌}
 use lib.IntN.{◌+ℤ◌}
 use mir.Syntax.{w32, w64}

@@ -1,7 +1,6 @@
 -- `filters::taps::three` meets its contract: three products, added up in the definition's order.
 -- Assumes nothing.
 use mathlib.Core.Path.{◌∙◌}
-use borrow.Author.Rules.{rules}
 use lib.IntN.{◌+ℤ◌}
 use mir.Syntax.{w32, w64}
 use Rattle.fixed.specs.Fixed.{wrapped, times}

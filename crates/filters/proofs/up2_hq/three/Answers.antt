@@ -4,7 +4,6 @@ use mathlib.Core.Path.{sym, ◌∙◌}
 use mathlib.Core.List.{[], ◌∷◌}
 use Prim.Native.Nat.{◌+◌}
 use native.Mathlib.Omega.{arith}
-use borrow.Author.Rules.{rules}
 use mir.Syntax.{w32}
 use Rattle.filters.specs.Lists.{◌!◌}
 use Rattle.filters.specs.Section.{section_out, section_next}

@@ -1,6 +1,5 @@
 -- `fixed::ar2::filtered` meets its contract: 256 times a sample fits the word, and the sum wraps as the definition's does.
 -- Assumes nothing.
-use borrow.Author.Rules.{rules}
 use mathlib.Core.Path.{◌∙◌, ap}
 use native.Mathlib.Omega.{arith}
 use lib.IntN.{pos, ◌+ℤ◌, ◌*ℤ◌}
@@ -8,7 +7,7 @@ use mir.Syntax.{w16, w32}
 use Rattle.fixed.specs.Ar2.{◌!◌}
 use Rattle.fixed.specs.Fixed.{wrapped}
 use Rattle.fixed.specs.Ar2.{ar2_out}
-use Rattle.fixed.proofs.Laws.Fit.{back, cast, rd, fit, widen16, scale-fits}
+use Rattle.fixed.proofs.Laws.Fit.{back, cast, rd, fit, scale-fits}
 use Rattle.fixed.proofs.ar2.filtered.Goals as goal
 
 pub overflow_mul-x : goal.overflow_mul-x

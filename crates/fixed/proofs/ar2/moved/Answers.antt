@@ -2,7 +2,6 @@
 -- Assumes nothing.
 use mathlib.Core.Path.{◌∙◌}
 use mathlib.Core.List.{[], ◌∷◌}
-use borrow.Author.Rules.{rules}
 use lib.IntN.{pos, ◌+ℤ◌, ◌*ℤ◌}
 use mir.Syntax.{w32, w64}
 use Rattle.fixed.specs.Fixed.{wrapped, times}

@@ -1,9 +1,7 @@
 -- `resampler::block::check` meets its contract: at each turn the sum and what the bytes to come weigh are the whole.
 -- Assumes nothing.
-use Prim.Native.Nat.{◌-◌}
 use native.Mathlib.Omega.{arith}
-use borrow.Author.Rules.{rules}
-use Rattle.resampler.proofs.Laws.Check.{Weighing, weigh-start, weigh-turn, weigh-end}
+use Rattle.resampler.proofs.Laws.Check.{weigh-start, weigh-turn, weigh-end}
 use Rattle.resampler.proofs.block.check.Goals as goal
 
 pub loop-i-init : goal.loop-i-init

@@ -1,7 +1,6 @@
 -- `resampler::entries::cleaned` meets its contract: the first entries of each array stay, as many as are live, and the others are cleared.
 -- Assumes nothing.
 use native.Mathlib.Omega.{arith}
-use borrow.Author.Rules.{rules}
 use Rattle.resampler.specs.Record.{pair_of}
 use Rattle.resampler.proofs.Laws.Pairs.{small}
 use Rattle.resampler.proofs.Laws.Entries.{delay-few, cleaned-is, kept}

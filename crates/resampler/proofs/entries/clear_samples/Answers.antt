@@ -1,10 +1,7 @@
 -- `resampler::entries::clear_samples` meets its contract: at each turn what is kept and cleared and the zeros to come are the whole.
 -- Assumes nothing.
-use Prim.Native.Nat.{◌-◌}
 use native.Mathlib.Omega.{arith}
-use borrow.Author.Rules.{rules}
-use lib.ListN.{length}
-use Rattle.resampler.proofs.Laws.Entries.{Clearing, clear-start, clear-turn, clear-end}
+use Rattle.resampler.proofs.Laws.Entries.{clear-start, clear-turn, clear-end}
 use Rattle.resampler.proofs.entries.clear_samples.Goals as goal
 
 pub loop-i-init : goal.loop-i-init

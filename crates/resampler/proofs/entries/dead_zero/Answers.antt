@@ -1,6 +1,5 @@
 -- `resampler::entries::dead_zero` meets its contract: each array is looked through from its live entries on.
 -- Assumes nothing.
-use borrow.Author.Rules.{rules}
 use Rattle.resampler.specs.Record.{pair_of}
 use Rattle.resampler.proofs.Laws.Pairs.{small}
 use Rattle.resampler.proofs.Laws.Entries.{looked, dead-is}

@@ -1,12 +1,8 @@
 -- `resampler::entries::words_zero` meets its contract: at each turn what is left to look at shows as much as the whole.
 -- Assumes nothing.
-use mathlib.Core.Path.{◌≡◌, refl, sym, ◌∙◌}
-use Prim.Native.Nat.{◌-◌}
-use borrow.Author.Rules.{rules}
+use mathlib.Core.Path.{refl, sym, ◌∙◌}
 use lib.IntN.{pos}
-use lib.ListN.{length, drop}
 use mir.Syntax.{w32}
-use Rattle.filters.specs.Lists.{every}
 use Rattle.resampler.specs.Block.{zero?}
 use Rattle.resampler.proofs.Laws.Scan.{scan-on, scan-fails, scan-end, zero_word, other_word}
 use Rattle.resampler.proofs.entries.words_zero.Goals as goal

@@ -5,7 +5,6 @@ use mathlib.Core.Path.{◌≡◌, refl, ◌∙◌, ap}
 use Prim.Native.Nat.{ℕ, ◌+◌, ◌*◌, ◌/◌, ◌^◌, ◌<◌, ◌≤◌}
 use native.Mathlib.Nat.{mul-le-mul_left}
 use native.Mathlib.Omega.{arith}
-use borrow.Author.Rules.{rules}
 use lib.Pow.{pow-add}
 use Rattle.resampler.specs.Pairs.{pair, path, up2x, raised, increment}
 use Rattle.resampler.proofs.Laws.Pairs.{raised-four, quotient-small}

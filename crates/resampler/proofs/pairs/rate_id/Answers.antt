@@ -1,7 +1,6 @@
 -- `resampler::pairs::rate_id` meets its contract: each arm is a test of the definition.
 -- Assumes nothing.
 use mathlib.Core.Path.{refl}
-use borrow.Author.Tests.{ne_eqb}
 use Rattle.resampler.specs.Pairs.{rate_id}
 use Rattle.std.proofs.Common.{arith}
 use Rattle.std.proofs.lemmas.Bool.Decides.{nat_tests}

@@ -1,7 +1,6 @@
 -- `resampler::pairs::supported` meets its contract: a rate's place tells whether it is one of the first three, or of the five.
 -- Assumes nothing.
 use mathlib.Core.Path.{refl, sym}
-use borrow.Author.Rules.{rules}
 use borrow.Author.Tests.{ne_eqb}
 use Rattle.resampler.specs.Pairs.{supported}
 use Rattle.resampler.proofs.Laws.Pairs.{id-three, id-five, enc-only}

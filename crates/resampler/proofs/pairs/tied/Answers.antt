@@ -1,6 +1,5 @@
 -- `resampler::pairs::tied` meets its contract: each matrix computes to its definition, entry by entry.
 -- Assumes nothing.
-use borrow.Author.Rules.{rules}
 use mathlib.Core.Path.{refl}
 use Rattle.resampler.specs.Pairs as Pairs
 use Rattle.resampler.proofs.pairs.tied.Goals as goal

@@ -4,8 +4,8 @@ use mathlib.Core.Path.{◌≡◌, refl, sym, ap, subst, ◌∙◌}
 use mathlib.Core.List.{List}
 use Prim.Native.Nat.{ℕ}
 use borrow.Author.Rules.{rules}
-use borrow.Author.Tests.{eq-eqb, ne_eqb, not-true, not-false}
-use lib.ListN.{length, length-map}
+use borrow.Author.Tests.{eq-eqb, ne_eqb}
+use lib.ListN.{length}
 use Rattle.stages.specs.declared.answer.Answer.TheVariants.{Done}
 use Rattle.stages.specs.Outcome.{outcome}
 use Rattle.resampler.specs.Pairs.{supported}

@@ -1,6 +1,5 @@
 -- `resampler::parking::put_body` meets its contract: each part is put where the last one ended.
 -- Assumes nothing.
-use borrow.Author.Rules.{rules}
 use Rattle.resampler.proofs.Laws.Body.{body-put}
 use Rattle.resampler.proofs.parking.put_body.Goals as goal
 

@@ -1,6 +1,5 @@
 -- `resampler::parking::seal` meets its contract: four bytes end the block.
 -- Assumes nothing.
-use borrow.Author.Rules.{rules}
 use Rattle.resampler.proofs.Laws.Body.{sealed}
 use Rattle.resampler.proofs.parking.seal.Goals as goal
 

@@ -2,7 +2,6 @@
 -- Assumes nothing.
 use mathlib.Core.Path.{◌∙◌}
 use native.Mathlib.Omega.{arith}
-use borrow.Author.Rules.{rules}
 use Rattle.resampler.specs.Pairs.{filter}
 use Rattle.resampler.specs.Record.{pair_of}
 use Rattle.resampler.proofs.Laws.Pairs.{small}

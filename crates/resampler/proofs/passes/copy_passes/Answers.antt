@@ -3,7 +3,6 @@
 use mathlib.Core.Path.{refl, ◌∙◌, sym}
 use mathlib.Core.List.{[]}
 use native.Mathlib.Omega.{arith}
-use borrow.Author.Rules.{rules}
 use lib.ListN.{length}
 use Rattle.resampler.specs.Record.{keeping, pair_of, arrays}
 use Rattle.resampler.specs.Resample.{made, rates_of}

@@ -2,7 +2,6 @@
 -- Assumes nothing.
 use mathlib.Core.Path.{◌≡◌, sym, subst}
 use mathlib.Core.List.{List}
-use borrow.Author.Rules.{rules}
 use lib.IntN.{ℤ}
 use Rattle.filters.specs.Stage.DownFir.{Filter}
 use Rattle.stages.specs.declared.down_fir.DownWords.{DownWords}

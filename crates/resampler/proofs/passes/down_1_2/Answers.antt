@@ -2,7 +2,6 @@
 -- Assumes nothing.
 use mathlib.Core.Path.{refl}
 use native.Mathlib.Omega.{arith}
-use borrow.Author.Rules.{rules}
 use Rattle.filters.specs.Rom.{silk_Resampler_1_2_COEFS}
 use Rattle.resampler.proofs.passes.down_1_2.Goals as goal
 

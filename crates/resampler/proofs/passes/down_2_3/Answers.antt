@@ -2,7 +2,6 @@
 -- Assumes nothing.
 use mathlib.Core.Path.{refl}
 use native.Mathlib.Omega.{arith}
-use borrow.Author.Rules.{rules}
 use Rattle.filters.specs.Rom.{silk_Resampler_2_3_COEFS}
 use Rattle.resampler.proofs.passes.down_2_3.Goals as goal
 

@@ -2,7 +2,6 @@
 -- Assumes nothing.
 use mathlib.Core.Path.{ap, ◌∙◌}
 use native.Mathlib.Omega.{arith}
-use borrow.Author.Rules.{rules}
 use lib.ListN.{length, take, length-take}
 use Rattle.filters.proofs.Laws.Lists.{padded-length}
 use Rattle.filters.specs.Stage.DownFir.{filter_of, down_pass, down_end}

@@ -2,7 +2,6 @@
 -- are zero. Assumes nothing.
 use mathlib.Core.Path.{refl, ap, ◌∙◌}
 use mathlib.Core.List.{List, []}
-use borrow.Author.Rules.{rules}
 use lib.IntN.{ℤ}
 use lib.ListN.{length, take}
 use Rattle.filters.specs.Stage.DownFir.{down_pass, down_end}

@@ -3,7 +3,6 @@
 use mathlib.Core.Path.{◌≡◌, refl, ◌∙◌}
 use mathlib.Core.List.{[]}
 use native.Mathlib.Omega.{arith}
-use borrow.Author.Rules.{rules}
 use lib.ListN.{length}
 use Rattle.filters.specs.Stage.IirFir.{iir_fir_pass, iir_fir_end}
 use Rattle.resampler.specs.Record.{keeping, pair_of, arrays}

@@ -1,6 +1,5 @@
 -- `resampler::passes::kept` meets its contract: samples copied over zeros are padded. Assumes nothing.
 use mathlib.Core.Path.{◌∙◌}
-use borrow.Author.Rules.{rules}
 use Rattle.filters.proofs.Laws.Lists.{over_zeros}
 use Rattle.resampler.proofs.passes.kept.Goals as goal
 

@@ -2,8 +2,7 @@
 -- that is asked for. Assumes nothing.
 use mathlib.Core.Path.{sym, ◌∙◌}
 use native.Mathlib.Omega.{arith}
-use borrow.Author.Rules.{rules}
-use lib.ListN.{length, length-map}
+use lib.ListN.{length}
 use Rattle.stages.specs.declared.answer.Answer.TheVariants.{Done}
 use Rattle.stages.specs.Outcome.{outcome}
 use Rattle.stages.proofs.Laws.Outcome.{ruled-refused, ruled-done}

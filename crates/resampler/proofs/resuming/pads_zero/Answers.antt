@@ -1,11 +1,6 @@
 -- `resampler::resuming::pads_zero` meets its contract: at each turn what is left to look at shows as much as the whole.
 -- Assumes nothing.
-use mathlib.Core.Path.{◌≡◌, sym, ◌∙◌}
-use Prim.Native.Nat.{◌-◌}
-use borrow.Author.Rules.{rules}
-use lib.Dec.{eqb}
-use lib.ListN.{take, drop}
-use Rattle.filters.specs.Lists.{every}
+use mathlib.Core.Path.{sym, ◌∙◌}
 use Rattle.resampler.proofs.Laws.Scan.{pads-start, pads-on, pads-fail, pads-end}
 use Rattle.resampler.proofs.resuming.pads_zero.Goals as goal
 

@@ -1,12 +1,10 @@
 -- `resampler::resuming::pads_zero` meets its contract: at each turn what is left to look at shows as much as the whole.
 -- Assumes nothing.
-use mathlib.Core.Path.{◌≡◌, sym, ◌∙◌}
+use mathlib.Core.Path.{◌≡◌}
 use Prim.Native.Nat.{◌-◌}
-use borrow.Author.Rules.{rules}
 use lib.Dec.{eqb}
 use lib.ListN.{take, drop}
 use Rattle.filters.specs.Lists.{every}
-use Rattle.resampler.proofs.Laws.Scan.{pads-start, pads-on, pads-fail, pads-end}
 use Rattle.resampler.proofs.resuming.pads_zero.Given as goal
 
 abbrev pub invariant-loop-i : goal.invariant-loop-i

@@ -1,6 +1,5 @@
 -- `resampler::resuming::record_in` meets its contract: each array is read from its place.
 -- Assumes nothing.
-use borrow.Author.Rules.{rules}
 use lib.ListN.{get_or}
 use Rattle.resampler.specs.Block.{record_in}
 use Rattle.resampler.proofs.resuming.record_in.Goals as goal

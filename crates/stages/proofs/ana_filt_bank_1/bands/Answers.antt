@@ -1,13 +1,12 @@
 -- `stages::ana_filt_bank_1::bands` meets its contract: at each turn the outputs written to a band, followed by what the
 -- definition makes of the pairs left, are the whole of that band.
 -- Assumes nothing.
-use Prim.Native.Nat.{◌+◌, ◌*◌, ◌-◌, ◌/◌, ◌≤◌}
+use Prim.Native.Nat.{◌+◌, ◌*◌}
 use mathlib.Core.Path.{◌≡◌, refl, sym, ◌∙◌}
 use mathlib.Core.List.{[], ◌∷◌}
 use native.Mathlib.Omega.{arith}
-use borrow.Author.Rules.{rules}
 use lib.IntN.{pos}
-use lib.ListN.{length, drop}
+use lib.ListN.{drop}
 use mir.Syntax.{w16, w32}
 use Rattle.filters.specs.Lists.{pairs, ◌!◌}
 use Rattle.filters.specs.Run.{run, end}
@@ -15,7 +14,7 @@ use Rattle.stages.specs.Outcome.{over}
 use Rattle.filters.specs.Stage.AnaFiltBank1.{low_out, high_out, split_next, split_low, split_high, split_end}
 use Rattle.fixed.proofs.Laws.Fit.{back}
 use Rattle.filters.proofs.Laws.Lists.{all_two, pairs-length, pairs_next, pairs-none}
-use Rattle.stages.proofs.Laws.Loop.{Running, run-start, run_room, run-turn, run_end}
+use Rattle.stages.proofs.Laws.Loop.{run-start, run_room, run-turn, run_end}
 use Rattle.stages.proofs.ana_filt_bank_1.bands.Goals as goal
 use Rattle.stages.proofs.ana_filt_bank_1.bands.Lts as Lts
 use Rattle.stages.proofs.ana_filt_bank_1.bands.Reads as Reads

@@ -1,21 +1,13 @@
 -- `stages::ana_filt_bank_1::bands` meets its contract: at each turn the outputs written to a band, followed by what the
 -- definition makes of the pairs left, are the whole of that band.
 -- Assumes nothing.
-use Prim.Native.Nat.{◌+◌, ◌*◌, ◌-◌, ◌/◌, ◌≤◌}
-use mathlib.Core.Path.{◌≡◌, refl, sym, ◌∙◌}
+use Prim.Native.Nat.{◌*◌, ◌-◌, ◌/◌, ◌≤◌}
+use mathlib.Core.Path.{◌≡◌}
 use mathlib.Core.List.{[], ◌∷◌}
-use native.Mathlib.Omega.{arith}
-use borrow.Author.Rules.{rules}
-use lib.IntN.{pos}
 use lib.ListN.{length, drop}
-use mir.Syntax.{w16, w32}
-use Rattle.filters.specs.Lists.{pairs, ◌!◌}
-use Rattle.filters.specs.Run.{run, end}
-use Rattle.stages.specs.Outcome.{over}
-use Rattle.filters.specs.Stage.AnaFiltBank1.{low_out, high_out, split_next, split_low, split_high, split_end}
-use Rattle.fixed.proofs.Laws.Fit.{back}
-use Rattle.filters.proofs.Laws.Lists.{all_two, pairs-length, pairs_next, pairs-none}
-use Rattle.stages.proofs.Laws.Loop.{Running, run-start, run_room, run-turn, run_end}
+use Rattle.filters.specs.Lists.{pairs}
+use Rattle.filters.specs.Stage.AnaFiltBank1.{low_out, high_out, split_next}
+use Rattle.stages.proofs.Laws.Loop.{Running}
 use Rattle.stages.proofs.ana_filt_bank_1.bands.Given as goal
 
 abbrev pub invariant-loop-k : goal.invariant-loop-k

@@ -1,11 +1,9 @@
 -- `stages::ar2::silk_resampler_private_AR2` meets its contract: at each turn the outputs written, followed by what the
 -- definition makes of the samples left, are the whole, and a turn unfolds the definition twice. Assumes nothing.
-use Prim.Native.Nat.{◌+◌, ◌-◌, ◌≤◌}
+use Prim.Native.Nat.{◌+◌}
 use mathlib.Core.Path.{◌≡◌, refl, ◌∙◌, ap}
 use mathlib.Core.List.{List, [], ◌∷◌}
-use mathlib.Core.Logic.{⊎_elim}
 use native.Mathlib.Omega.{arith}
-use borrow.Author.Rules.{rules}
 use lib.IntN.{ℤ, pos}
 use lib.ListN.{length, drop, set}
 use mir.Syntax.{w16, w32}

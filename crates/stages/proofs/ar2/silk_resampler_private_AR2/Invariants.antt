@@ -1,21 +1,9 @@
 -- `stages::ar2::silk_resampler_private_AR2` meets its contract: at each turn the outputs written, followed by what the
 -- definition makes of the samples left, are the whole, and a turn unfolds the definition twice. Assumes nothing.
-use Prim.Native.Nat.{◌+◌, ◌-◌, ◌≤◌}
-use mathlib.Core.Path.{◌≡◌, refl, ◌∙◌, ap}
-use mathlib.Core.List.{List, [], ◌∷◌}
-use mathlib.Core.Logic.{⊎_elim}
-use native.Mathlib.Omega.{arith}
-use borrow.Author.Rules.{rules}
-use lib.IntN.{ℤ, pos}
-use lib.ListN.{length, drop, set}
-use mir.Syntax.{w16, w32}
-use Rattle.filters.specs.Lists.{◌!◌}
-use Rattle.fixed.specs.Ar2.{ar2_out, ar2_after, ar2_next}
-use Rattle.filters.specs.Stage.Ar2.{ar2, ar2_end}
-use Rattle.stages.specs.Outcome.{over}
-use Rattle.fixed.proofs.Laws.Fit.{back, at}
-use Rattle.filters.proofs.Laws.Lists.{drop-next, drop-none}
-use Rattle.stages.proofs.Laws.Loop.{Running, run-start, run_room, run-turn, run_end}
+use Prim.Native.Nat.{◌-◌, ◌≤◌}
+use lib.ListN.{length, drop}
+use Rattle.fixed.specs.Ar2.{ar2_out, ar2_next}
+use Rattle.stages.proofs.Laws.Loop.{Running}
 use Rattle.stages.proofs.ar2.silk_resampler_private_AR2.Given as goal
 
 abbrev pub invariant-loop-k : goal.invariant-loop-k

@@ -4,11 +4,10 @@
 use mathlib.Core.Path.{◌≡◌}
 use Prim.Native.Nat.{◌+◌, ◌/◌, ◌-◌, ◌<◌, ◌≤◌, min}
 use native.Mathlib.Omega.{arith}
-use borrow.Author.Rules.{rules}
 use lib.ListN.{length, drop, length-take, length-drop}
 use Rattle.filters.specs.Stage.Down2.{down2, down2_end}
 use Rattle.filters.proofs.Laws.Lengths.{down2-length, down2_end-length}
-use Rattle.stages.proofs.Laws.Pass.{Passing, part_length, pass-room, pass-turn, whole-start, whole-end}
+use Rattle.stages.proofs.Laws.Pass.{part_length, pass-room, pass-turn, whole-start, whole-end}
 use Rattle.stages.proofs.Laws.Parts.{down2-nothing, down2-parts}
 use Rattle.stages.proofs.down2.decimate.Goals as goal
 use Rattle.stages.proofs.down2.decimate.Lts as Lts

@@ -2,14 +2,10 @@
 -- whole.
 -- Assumes nothing.
 use mathlib.Core.Path.{◌≡◌}
-use Prim.Native.Nat.{◌+◌, ◌/◌, ◌-◌, ◌<◌, ◌≤◌, min}
-use native.Mathlib.Omega.{arith}
-use borrow.Author.Rules.{rules}
-use lib.ListN.{length, drop, length-take, length-drop}
+use Prim.Native.Nat.{◌-◌}
+use lib.ListN.{length}
 use Rattle.filters.specs.Stage.Down2.{down2, down2_end}
-use Rattle.filters.proofs.Laws.Lengths.{down2-length, down2_end-length}
-use Rattle.stages.proofs.Laws.Pass.{Passing, part_length, pass-room, pass-turn, whole-start, whole-end}
-use Rattle.stages.proofs.Laws.Parts.{down2-nothing, down2-parts}
+use Rattle.stages.proofs.Laws.Pass.{Passing}
 use Rattle.stages.proofs.down2.decimate.Given as goal
 
 abbrev pub invariant-loop-at : goal.invariant-loop-at

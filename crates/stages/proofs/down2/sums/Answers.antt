@@ -1,12 +1,11 @@
 -- `stages::down2::sums` meets its contract: at each turn the sums written, followed by those of the pairs left, are the whole.
 -- Assumes nothing.
-use Prim.Native.Nat.{◌+◌, ◌*◌, ◌-◌, ◌/◌, ◌≤◌}
+use Prim.Native.Nat.{◌+◌, ◌*◌}
 use mathlib.Core.Path.{◌≡◌, refl, sym, ◌∙◌}
 use mathlib.Core.List.{[], ◌∷◌}
 use native.Mathlib.Omega.{arith}
-use borrow.Author.Rules.{rules}
 use lib.IntN.{pos}
-use lib.ListN.{length, drop}
+use lib.ListN.{drop}
 use mir.Syntax.{w16, w32}
 use Rattle.filters.specs.Lists.{pairs, ◌!◌}
 use Rattle.filters.specs.Run.{run, end}
@@ -14,7 +13,7 @@ use Rattle.stages.specs.Outcome.{over}
 use Rattle.filters.specs.Stage.Down2.{down2_sum, down2_next, down2_end}
 use Rattle.fixed.proofs.Laws.Fit.{back}
 use Rattle.filters.proofs.Laws.Lists.{all_two, pairs-length, pairs_next, pairs-none}
-use Rattle.stages.proofs.Laws.Loop.{Running, run-start, run_room, run-turn, run_end}
+use Rattle.stages.proofs.Laws.Loop.{run-start, run_room, run-turn, run_end}
 use Rattle.stages.proofs.down2.sums.Goals as goal
 use Rattle.stages.proofs.down2.sums.Lts as Lts
 use Rattle.stages.proofs.down2.sums.Reads as Reads

@@ -1,20 +1,12 @@
 -- `stages::down2::sums` meets its contract: at each turn the sums written, followed by those of the pairs left, are the whole.
 -- Assumes nothing.
-use Prim.Native.Nat.{◌+◌, ◌*◌, ◌-◌, ◌/◌, ◌≤◌}
-use mathlib.Core.Path.{◌≡◌, refl, sym, ◌∙◌}
+use Prim.Native.Nat.{◌*◌, ◌-◌, ◌/◌, ◌≤◌}
+use mathlib.Core.Path.{◌≡◌}
 use mathlib.Core.List.{[], ◌∷◌}
-use native.Mathlib.Omega.{arith}
-use borrow.Author.Rules.{rules}
-use lib.IntN.{pos}
 use lib.ListN.{length, drop}
-use mir.Syntax.{w16, w32}
-use Rattle.filters.specs.Lists.{pairs, ◌!◌}
-use Rattle.filters.specs.Run.{run, end}
-use Rattle.stages.specs.Outcome.{over}
-use Rattle.filters.specs.Stage.Down2.{down2_sum, down2_next, down2_end}
-use Rattle.fixed.proofs.Laws.Fit.{back}
-use Rattle.filters.proofs.Laws.Lists.{all_two, pairs-length, pairs_next, pairs-none}
-use Rattle.stages.proofs.Laws.Loop.{Running, run-start, run_room, run-turn, run_end}
+use Rattle.filters.specs.Lists.{pairs}
+use Rattle.filters.specs.Stage.Down2.{down2_sum, down2_next}
+use Rattle.stages.proofs.Laws.Loop.{Running}
 use Rattle.stages.proofs.down2.sums.Given as goal
 
 abbrev pub invariant-loop-k : goal.invariant-loop-k

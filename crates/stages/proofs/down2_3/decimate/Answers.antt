@@ -3,17 +3,16 @@
 -- Assumes nothing.
 use mathlib.Core.Path.{◌≡◌, ◌∙◌, ap}
 use mathlib.Core.List.{List, [], ◌∷◌}
-use Prim.Native.Nat.{ℕ, ◌+◌, ◌*◌, ◌-◌, ◌<◌, ◌≤◌}
+use Prim.Native.Nat.{ℕ, ◌+◌, ◌*◌, ◌<◌, ◌≤◌}
 use native.Mathlib.Nat.{div-add-mod'}
 use native.Mathlib.Omega.{arith}
-use borrow.Author.Rules.{rules}
 use lib.IntN.{ℤ}
 use lib.ListN.{length, length-set}
 use mir.Syntax.{w16}
 use Rattle.filters.specs.Lists.{◌!◌}
 use Rattle.filters.specs.Stage.Down2_3.{down23, down23_end}
 use Rattle.fixed.proofs.Laws.Fit.{at, back}
-use Rattle.stages.proofs.Laws.Groups.{Grouping, samples, group-start, group-room, group-turn, group-stop}
+use Rattle.stages.proofs.Laws.Groups.{samples, group-start, group-room, group-turn, group-stop}
 use Rattle.stages.proofs.down2_3.decimate.Goals as goal
 use Rattle.stages.proofs.down2_3.decimate.Lts as Lts
 use Rattle.stages.proofs.down2_3.decimate.Reads as Reads

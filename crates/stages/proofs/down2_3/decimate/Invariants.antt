@@ -1,19 +1,8 @@
 -- `stages::down2_3::decimate` meets its contract: at each turn the outputs written, followed by what the definition makes of the
 -- samples left, are the whole, and a turn is its first group.
 -- Assumes nothing.
-use mathlib.Core.Path.{◌≡◌, ◌∙◌, ap}
-use mathlib.Core.List.{List, [], ◌∷◌}
-use Prim.Native.Nat.{ℕ, ◌+◌, ◌*◌, ◌-◌, ◌<◌, ◌≤◌}
-use native.Mathlib.Nat.{div-add-mod'}
-use native.Mathlib.Omega.{arith}
-use borrow.Author.Rules.{rules}
-use lib.IntN.{ℤ}
-use lib.ListN.{length, length-set}
-use mir.Syntax.{w16}
-use Rattle.filters.specs.Lists.{◌!◌}
-use Rattle.filters.specs.Stage.Down2_3.{down23, down23_end}
-use Rattle.fixed.proofs.Laws.Fit.{at, back}
-use Rattle.stages.proofs.Laws.Groups.{Grouping, samples, group-start, group-room, group-turn, group-stop}
+use Prim.Native.Nat.{◌-◌, ◌≤◌}
+use Rattle.stages.proofs.Laws.Groups.{Grouping}
 use Rattle.stages.proofs.down2_3.decimate.Given as goal
 
 abbrev pub invariant-loop-k : goal.invariant-loop-k

@@ -4,7 +4,6 @@
 use mathlib.Core.Path.{refl, sym, ◌∙◌}
 use Prim.Native.Nat.{◌*◌, ◌/◌}
 use native.Mathlib.Omega.{arith}
-use borrow.Author.Rules.{rules}
 use lib.ListN.{length}
 use Rattle.stages.specs.declared.answer.Answer.TheVariants.{Done}
 use Rattle.stages.specs.Outcome.{outcome}

@@ -1,6 +1,5 @@
 -- `stages::down2_3::third_row` meets its contract: its tests are the definition's, in the same order.
 -- Assumes nothing.
-use borrow.Author.Rules.{rules}
 use borrow.Author.Tests.{eq-eqb, ne_eqb, lt-ltb, le-ltb}
 use Rattle.stages.specs.Entry.{down23_row}
 use Rattle.stages.proofs.down2_3.third_row.Goals as goal

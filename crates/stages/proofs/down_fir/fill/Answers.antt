@@ -1,7 +1,6 @@
 -- `stages::down_fir::fill` meets its contract: AR2's output is put where the carried words end.
 -- Assumes nothing.
 use native.Mathlib.Omega.{arith}
-use borrow.Author.Rules.{rules}
 use Rattle.filters.specs.Stage.Ar2.{ar2}
 use Rattle.filters.proofs.Laws.Lengths.{ar2-length}
 use Rattle.stages.proofs.Laws.Loop.{over-behind}

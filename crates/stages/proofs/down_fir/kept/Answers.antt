@@ -1,7 +1,6 @@
 -- `stages::down_fir::kept` meets its contract: what lies behind the copied words are the zeros that were there.
 -- Assumes nothing.
 use mathlib.Core.Path.{◌∙◌}
-use borrow.Author.Rules.{rules}
 use Rattle.filters.proofs.Laws.Lists.{over_zeros}
 use Rattle.stages.proofs.down_fir.kept.Goals as goal
 

@@ -1,23 +1,15 @@
 -- `stages::down_fir::silk_resampler_private_down_FIR` meets its contract: each turn is a batch of the definition's, and what the
 -- batches so far wrote, followed by what those left will, is the whole.
 -- Assumes nothing.
-use mathlib.Core.Path.{◌≡◌, refl, sym, ◌∙◌, ap}
+use mathlib.Core.Path.{◌≡◌}
 use mathlib.Core.List.{List}
-use Prim.Native.Nat.{ℕ, ◌+◌, ◌*◌, ◌-◌, ◌≤◌, min}
-use native.Mathlib.Omega.{arith}
-use borrow.Author.Rules.{rules}
+use Prim.Native.Nat.{ℕ, ◌*◌, ◌-◌}
 use lib.IntN.{ℤ}
-use lib.ListN.{length, take, drop, length-take, length-drop}
-use lib.Seq.{length-take-le}
+use lib.ListN.{length, take}
 use Rattle.filters.specs.declared.rates.Rates.{Rates}
 use Rattle.filters.specs.Lists.{padded}
-use Rattle.filters.specs.Run.{pass_out, pass_end}
-use Rattle.stages.specs.Outcome.{over}
-use Rattle.filters.specs.Reader.{outputs}
-use Rattle.filters.specs.Stage.DownFir.{Filter, filter_of, down_batch, down_next, down_pass, down_end}
-use Rattle.filters.proofs.Laws.Lengths.{down_batch-length}
-use Rattle.filters.proofs.Laws.Lists.{take-padded, padded-length}
-use Rattle.stages.proofs.Laws.Pass.{Milliseconds, ms-start, ms-whole, ms-few, ms-room, ms-turn, ms-end}
+use Rattle.filters.specs.Stage.DownFir.{Filter, filter_of, down_batch, down_next}
+use Rattle.stages.proofs.Laws.Pass.{Milliseconds}
 use Rattle.stages.proofs.down_fir.silk_resampler_private_down_FIR.Given as goal
 
 -- what is run: the batches of a filter over the input, from the words that the loop starts with

@@ -2,7 +2,7 @@
 -- read is the whole.
 -- Assumes nothing.
 use mathlib.Core.Path.{◌∙◌, ap}
-use Prim.Native.Nat.{◌-◌, ◌/◌, ◌%◌}
+use Prim.Native.Nat.{◌/◌, ◌%◌}
 use native.Mathlib.Nat.{mod-lt}
 use native.Mathlib.Omega.{arith}
 use borrow.Author.Rules.{rules}
@@ -11,7 +11,7 @@ use mir.Syntax.{w32}
 use Rattle.filters.specs.Stage.DownFir.{filter_of, filtered}
 use Rattle.fixed.proofs.Laws.Fit.{back}
 use Rattle.filters.proofs.Laws.Lists.{part-rest}
-use Rattle.stages.proofs.Laws.Reading.{Reading, read-start, read-place, read-room, read-turn, read-end}
+use Rattle.stages.proofs.Laws.Reading.{read-start, read-place, read-room, read-turn, read-end}
 use Rattle.stages.proofs.down_fir.sums.Goals as goal
 
 pub loop-j-init : goal.loop-j-init

@@ -1,7 +1,6 @@
 -- `stages::iir_fir::fill` meets its contract: the doubled samples are put where the carried ones end.
 -- Assumes nothing.
 use native.Mathlib.Omega.{arith}
-use borrow.Author.Rules.{rules}
 use Rattle.filters.specs.Stage.Up2Hq.{up2}
 use Rattle.filters.proofs.Laws.Lengths.{up2-length}
 use Rattle.stages.proofs.Laws.Loop.{over-behind}

@@ -1,7 +1,6 @@
 -- `stages::iir_fir::kept` meets its contract: eight samples fill the eight places.
 -- Assumes nothing.
 use mathlib.Core.Path.{sym, ◌∙◌}
-use borrow.Author.Rules.{rules}
 use Rattle.stages.proofs.Laws.Outcome.{over-full}
 use Rattle.stages.proofs.iir_fir.kept.Goals as goal
 

@@ -3,7 +3,6 @@
 use mathlib.Core.Path.{◌≡◌, sym, ap, ◌∙◌}
 use mathlib.Core.List.{List, map}
 use native.Mathlib.Omega.{arith}
-use borrow.Author.Rules.{rules}
 use lib.IntN.{ℤ}
 use lib.ListN.{length, take}
 use Rattle.fixed.specs.Fixed.{narrowed}

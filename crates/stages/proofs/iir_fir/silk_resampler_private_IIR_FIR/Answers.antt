@@ -3,15 +3,13 @@
 -- Assumes nothing.
 use mathlib.Core.Path.{◌≡◌, refl, ap}
 use mathlib.Core.List.{List}
-use Prim.Native.Nat.{ℕ, ◌+◌, ◌*◌, ◌-◌, ◌<◌, ◌≤◌, min}
+use Prim.Native.Nat.{◌+◌, ◌*◌, ◌-◌, ◌<◌, ◌≤◌, min}
 use native.Mathlib.Omega.{arith}
-use borrow.Author.Rules.{rules}
 use lib.IntN.{ℤ}
 use lib.ListN.{length, drop, length-take, length-drop}
-use Rattle.filters.specs.declared.rates.Rates.{Rates}
-use Rattle.filters.specs.Stage.IirFir.{iir_fir_batch, iir_fir_next, iir_fir_pass, iir_fir_end}
+use Rattle.filters.specs.Stage.IirFir.{iir_fir_pass, iir_fir_end}
 use Rattle.filters.proofs.Laws.Lengths.{iir_fir_batch-length, iir_fir_next-length}
-use Rattle.stages.proofs.Laws.Pass.{Milliseconds, ms-start, ms-whole, ms-few, ms-room, ms-turn, ms-end}
+use Rattle.stages.proofs.Laws.Pass.{ms-start, ms-whole, ms-few, ms-room, ms-turn, ms-end}
 use Rattle.stages.proofs.iir_fir.silk_resampler_private_IIR_FIR.Invariants.{Run}
 use Rattle.stages.proofs.iir_fir.silk_resampler_private_IIR_FIR.Goals as goal
 use Rattle.stages.proofs.iir_fir.silk_resampler_private_IIR_FIR.Lts as Lts

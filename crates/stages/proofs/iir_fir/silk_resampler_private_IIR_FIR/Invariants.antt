@@ -1,17 +1,14 @@
 -- `stages::iir_fir::silk_resampler_private_IIR_FIR` meets its contract: each turn is a batch of the definition's, and what the
 -- batches so far wrote, followed by what those left will, is the whole.
 -- Assumes nothing.
-use mathlib.Core.Path.{◌≡◌, refl, ap}
+use mathlib.Core.Path.{◌≡◌}
 use mathlib.Core.List.{List}
-use Prim.Native.Nat.{ℕ, ◌+◌, ◌*◌, ◌-◌, ◌<◌, ◌≤◌, min}
-use native.Mathlib.Omega.{arith}
-use borrow.Author.Rules.{rules}
+use Prim.Native.Nat.{ℕ, ◌*◌, ◌-◌}
 use lib.IntN.{ℤ}
-use lib.ListN.{length, drop, length-take, length-drop}
+use lib.ListN.{length}
 use Rattle.filters.specs.declared.rates.Rates.{Rates}
-use Rattle.filters.specs.Stage.IirFir.{iir_fir_batch, iir_fir_next, iir_fir_pass, iir_fir_end}
-use Rattle.filters.proofs.Laws.Lengths.{iir_fir_batch-length, iir_fir_next-length}
-use Rattle.stages.proofs.Laws.Pass.{Milliseconds, ms-start, ms-whole, ms-few, ms-room, ms-turn, ms-end}
+use Rattle.filters.specs.Stage.IirFir.{iir_fir_batch, iir_fir_next}
+use Rattle.stages.proofs.Laws.Pass.{Milliseconds}
 use Rattle.stages.proofs.iir_fir.silk_resampler_private_IIR_FIR.Given as goal
 
 -- what is run: the batches over the input, from the words that the loop starts with

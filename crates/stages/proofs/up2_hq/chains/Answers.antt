@@ -1,11 +1,10 @@
 -- `stages::up2_hq::chains` meets its contract: at each turn the words written, followed by what the definition makes of the
 -- samples left, are the whole.
 -- Assumes nothing.
-use Prim.Native.Nat.{ℕ, ◌+◌, ◌*◌, ◌-◌, ◌≤◌, ◌<◌}
+use Prim.Native.Nat.{ℕ, ◌+◌, ◌*◌, ◌≤◌, ◌<◌}
 use mathlib.Core.Path.{◌≡◌, ◌∙◌, ap}
 use mathlib.Core.List.{List, [], ◌∷◌}
 use native.Mathlib.Omega.{arith}
-use borrow.Author.Rules.{rules}
 use lib.IntN.{ℤ, pos}
 use lib.ListN.{length, drop, length-set}
 use mir.Syntax.{w16, w32}
@@ -15,7 +14,7 @@ use Rattle.filters.specs.Stage.Up2Hq.{up2_raw, up2_next, up2_end}
 use Rattle.fixed.proofs.Laws.Fit.{at, back}
 use Rattle.filters.proofs.Laws.Lengths.{up2_next-length, up2_raw-length}
 use Rattle.filters.proofs.Laws.Lists.{drop-next, drop-none}
-use Rattle.stages.proofs.Laws.Loop.{Doubling, double-start, double-room, double-turn, double-end}
+use Rattle.stages.proofs.Laws.Loop.{double-start, double-room, double-turn, double-end}
 use Rattle.stages.proofs.up2_hq.chains.Goals as goal
 use Rattle.stages.proofs.up2_hq.chains.Lts as Lts
 use Rattle.stages.proofs.up2_hq.chains.Reads as Reads

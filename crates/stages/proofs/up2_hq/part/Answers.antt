@@ -4,7 +4,6 @@ use mathlib.Core.Path.{◌≡◌, sym, ap, ◌∙◌}
 use mathlib.Core.List.{List, map}
 use Prim.Native.Nat.{ℕ, ◌*◌}
 use native.Mathlib.Omega.{arith}
-use borrow.Author.Rules.{rules}
 use lib.IntN.{ℤ}
 use lib.ListN.{length, take}
 use Rattle.fixed.specs.Fixed.{narrowed}

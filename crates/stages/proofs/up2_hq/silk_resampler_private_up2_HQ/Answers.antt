@@ -4,11 +4,10 @@
 use mathlib.Core.Path.{◌≡◌}
 use Prim.Native.Nat.{◌+◌, ◌*◌, ◌-◌, ◌<◌, ◌≤◌, min}
 use native.Mathlib.Omega.{arith}
-use borrow.Author.Rules.{rules}
 use lib.ListN.{length, drop, length-take, length-drop}
 use Rattle.filters.specs.Stage.Up2Hq.{up2, up2_end}
 use Rattle.filters.proofs.Laws.Lengths.{up2-length, up2_end-length}
-use Rattle.stages.proofs.Laws.Pass.{Passing, part_length, pass-room, pass-turn, whole-start, whole-end}
+use Rattle.stages.proofs.Laws.Pass.{part_length, pass-room, pass-turn, whole-start, whole-end}
 use Rattle.stages.proofs.Laws.Parts.{up2-nothing, up2-parts}
 use Rattle.stages.proofs.up2_hq.silk_resampler_private_up2_HQ.Goals as goal
 use Rattle.stages.proofs.up2_hq.silk_resampler_private_up2_HQ.Lts as Lts

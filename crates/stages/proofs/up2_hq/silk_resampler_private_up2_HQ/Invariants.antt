@@ -2,14 +2,10 @@
 -- whole.
 -- Assumes nothing.
 use mathlib.Core.Path.{◌≡◌}
-use Prim.Native.Nat.{◌+◌, ◌*◌, ◌-◌, ◌<◌, ◌≤◌, min}
-use native.Mathlib.Omega.{arith}
-use borrow.Author.Rules.{rules}
-use lib.ListN.{length, drop, length-take, length-drop}
+use Prim.Native.Nat.{◌-◌}
+use lib.ListN.{length}
 use Rattle.filters.specs.Stage.Up2Hq.{up2, up2_end}
-use Rattle.filters.proofs.Laws.Lengths.{up2-length, up2_end-length}
-use Rattle.stages.proofs.Laws.Pass.{Passing, part_length, pass-room, pass-turn, whole-start, whole-end}
-use Rattle.stages.proofs.Laws.Parts.{up2-nothing, up2-parts}
+use Rattle.stages.proofs.Laws.Pass.{Passing}
 use Rattle.stages.proofs.up2_hq.silk_resampler_private_up2_HQ.Given as goal
 
 abbrev pub invariant-loop-at : goal.invariant-loop-at

@@ -1,15 +1,8 @@
 -- `stages::words::copy` meets its contract: at each turn what is copied, followed by what is left, is the whole.
 -- Assumes nothing.
 use Prim.Native.Nat.{◌-◌, ◌≤◌}
-use native.Mathlib.Omega.{arith}
-use borrow.Author.Rules.{rules}
-use lib.IntN.{pos}
 use lib.ListN.{length, drop}
-use mir.Syntax.{w32}
-use Rattle.filters.specs.Lists.{◌!◌}
-use Rattle.fixed.proofs.Laws.Fit.{back}
-use Rattle.filters.proofs.Laws.Lists.{drop-next, drop-none}
-use Rattle.stages.proofs.Laws.Loop.{Filling, fill_start, fill_one, fill_end}
+use Rattle.stages.proofs.Laws.Loop.{Filling}
 use Rattle.stages.proofs.words.copy.Given as goal
 
 abbrev pub invariant-loop-k : goal.invariant-loop-k

@@ -1,18 +1,14 @@
 -- `stages::words::narrow` meets its contract: at each turn what is narrowed, followed by what is left, is the whole.
 -- Assumes nothing.
-use Prim.Native.Nat.{◌-◌, ◌≤◌}
 use mathlib.Core.Path.{ap, ◌∙◌}
-use mathlib.Core.List.{map}
 use native.Mathlib.Omega.{arith}
-use borrow.Author.Rules.{rules}
 use lib.IntN.{pos}
-use lib.ListN.{length, drop}
 use mir.Syntax.{w16, w32}
 use Rattle.fixed.specs.Fixed.{narrowed}
 use Rattle.filters.specs.Lists.{◌!◌}
 use Rattle.fixed.proofs.Laws.Fit.{back}
 use Rattle.filters.proofs.Laws.Lists.{drop-next, drop-none}
-use Rattle.stages.proofs.Laws.Loop.{Filling, fill_start, fill_one, fill_end}
+use Rattle.stages.proofs.Laws.Loop.{fill_start, fill_one, fill_end}
 use Rattle.stages.proofs.words.narrow.Goals as goal
 
 pub loop-k-init : goal.loop-k-init
