@@ -10,10 +10,9 @@ use lib.Dec.{eqb}
 use lib.IntN.{ℤ}
 use lib.ListN.{length, drop}
 use lib.Seq.{drop-append_seam}
-use Rattle.stages.specs.declared.answer.Answer.TheVariants.{Done, Refused}
+use Rattle.stages.specs.Outcome.{Done, Refused, Outcome, outcome, ruled, written, over}
 use Rattle.filters.specs.Lists.{tabulate, joined, pairs, padded}
 use Rattle.filters.specs.Run.{run, end}
-use Rattle.stages.specs.Outcome.{Outcome, outcome, ruled, written, over}
 use Rattle.filters.specs.Stage.Down2.{down2, down2_end}
 use Rattle.filters.specs.Stage.Down2_3.{down23, down23_end}
 use Rattle.filters.specs.Stage.AnaFiltBank1.{split_low, split_high, split_end}

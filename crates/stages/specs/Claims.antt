@@ -1,8 +1,7 @@
 -- What is claimed of the promises, a sentence and a statement each. The proofs stand in proofs/Claims.antt.
 use Rattle.std.specs.Prelude.{◌≡◌, ◌&&◌, ℕ, ◌/◌, List, [], eqb, ℤ, length, take, drop}
-use Rattle.stages.specs.declared.answer.Answer.TheVariants.{Done}
+use Rattle.stages.specs.Outcome.{Done, Outcome, outcome, number, written, Staged}
 use Rattle.filters.specs.Lists.{padded}
-use Rattle.stages.specs.Outcome.{Outcome, outcome, number, written, Staged}
 use Rattle.stages.specs.Entry.{half_row, down23_row, down2_outcome, split_outcome, down23_outcome}
 
 -- a promise fixes all that a call leaves: two outcomes that it allows are one, refused or done

@@ -4,8 +4,7 @@ use Rattle.std.specs.Prelude.{if◌then◌else◌, ℕ, ◌*◌, ◌/◌, ◌%�
 use Rattle.filters.specs.Stage.Down2.{down2, down2_end}
 use Rattle.filters.specs.Stage.Down2_3.{down23, down23_end}
 use Rattle.filters.specs.Stage.AnaFiltBank1.{split_low, split_high, split_end}
-use Rattle.stages.specs.declared.answer.Answer.TheVariants.{Done}
-use Rattle.stages.specs.Outcome.{Outcome, outcome, ruled, over}
+use Rattle.stages.specs.Outcome.{Done, Outcome, outcome, ruled, over}
 
 -- the most samples that these take in a call
 abbrev pub most_samples : ℕ

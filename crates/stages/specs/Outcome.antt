@@ -1,8 +1,13 @@
 -- What a call leaves behind: its answer, the state that it returns and the output that was lent to it, refused calls too.
 -- Cited by every entry point, here and in the resampler. Assumes nothing.
-use Rattle.std.specs.Prelude.{if◌then◌else◌, ◌≡◌, ℕ, List, ◌++◌, eqb, length, drop}
-use Rattle.stages.specs.declared.answer.Answer.{Answer}
-use Rattle.stages.specs.declared.answer.Answer.TheVariants.{Done, Refused}
+use Rattle.std.specs.Prelude.{if◌then◌else◌, ◌≡◌, ℕ, List, ◌++◌, eqb, length, drop, Option, None, Some, Result, Ok, Err}
+use Rattle.stages.specs.declared.answer.Refusal.{Refusal}
+use Rattle.stages.specs.declared.answer.Refusal.TheVariants.{PairNotListed, NoSupportedPair, NotWholeMilliseconds, TooLong, OutputTooShort, NotInGroups, NotHalf, NotABlock, CheckDiffers, LayoutUnknown, BlockPairUnsupported, DeadNotZero}
+
+-- done, with the samples written, or refused, with the number of the row that applies
+pub data Answer : Type 0 where
+  Done : ℕ → Answer
+  Refused : ℕ → Answer
 
 -- the number of an answer in the table of numbered answers, and the samples that it reports written
 abbrev pub number : Answer → ℕ
@@ -12,6 +17,31 @@ number (Refused k) = k
 abbrev pub written : Answer → ℕ
 written (Done n) = n
 written (Refused k) = 0
+
+-- the row of each refusal of the code
+abbrev pub row_of : Refusal → ℕ
+row_of PairNotListed = 1
+row_of NoSupportedPair = 2
+row_of NotWholeMilliseconds = 3
+row_of TooLong = 4
+row_of OutputTooShort = 5
+row_of NotInGroups = 6
+row_of NotHalf = 7
+row_of NotABlock = 8
+row_of CheckDiffers = 9
+row_of LayoutUnknown = 10
+row_of BlockPairUnsupported = 11
+row_of DeadNotZero = 12
+
+-- of a test that may refuse: 0 where it does not
+abbrev pub row : Option Refusal → ℕ
+row None = 0
+row (Some refusal) = row_of refusal
+
+-- what the code answers, in the numbers of the table
+abbrev pub answer_of : Result ℕ Refusal → Answer
+answer_of (Ok n) = Done n
+answer_of (Err refusal) = Refused (row_of refusal)
 
 pub record Outcome (S L : Type 0) : Type 0 where
   pub answer : Answer

@@ -2,21 +2,14 @@
 // From silk/ana_filt_bank_1.rs. Meaning: specs/Entry.antt. Unlike the Rust, the words go in and out by value, and lengths
 // that do not fit are refused.
 ghost use Rattle.std.specs.Prelude.{◌≡◌, ◌/◌, ◌≤◌, length};
-ghost use Rattle.stages.specs.Outcome.{Staged, outcome};
+ghost use Rattle.stages.specs.Outcome.{Staged, outcome, answer_of};
 ghost use Rattle.filters.specs.Stage.AnaFiltBank1.{split_low, split_high, split_end};
 ghost use Rattle.stages.specs.Entry.{split_outcome};
 
 use crate::answer;
-use crate::answer::Answer;
+use crate::answer::Answered;
 use filters::allpass::Words;
 use filters::ana_filt_bank_1::step;
-
-// What a call answers, and the words after it.
-#[derive(Clone, Copy)]
-pub struct Split {
-    pub answer: Answer,
-    pub words: [i32; 2],
-}
 
 // Fills the front of both bands and returns the words after the input.
 fn bands(words: [i32; 2], low: &mut [i16], high: &mut [i16], input: &[i16]) -> [i32; 2]
@@ -49,20 +42,14 @@ pub fn silk_ana_filt_bank_1(
     low: &mut [i16],
     high: &mut [i16],
     input: &[i16],
-) -> Split
-    ensures { outcome result.answer result.words (low.new, high.new) ≡ split_outcome words input.now low.old high.old }
+) -> Answered<[i32; 2]>
+    ensures { outcome (answer_of result.answer) result.state (low.new, high.new) ≡ split_outcome words input.now low.old high.old }
 {
     let half = input.len() / 2;
-    let row = answer::half_row(input.len(), (low.len() == half) & (high.len() == half));
-    if row != 0 {
-        return Split {
-            answer: Answer::Refused(row),
-            words,
-        };
+    let fit = (low.len() == half) & (high.len() == half);
+    if let Some(refusal) = answer::half_refusal(input.len(), fit) {
+        return Answered::refused(refusal, words);
     }
-    let w = bands(words, low, high, input);
-    Split {
-        answer: Answer::Done { written: half },
-        words: w,
-    }
+    let after = bands(words, low, high, input);
+    Answered::done(half, after)
 }

@@ -4,22 +4,15 @@
 ghost use Rattle.std.specs.Prelude.{◌≡◌, ◌/◌, ◌≤◌, length};
 ghost use Rattle.filters.specs.Lists.{pairs};
 ghost use Rattle.filters.specs.Run.{run};
-ghost use Rattle.stages.specs.Outcome.{Staged, outcome};
+ghost use Rattle.stages.specs.Outcome.{Staged, outcome, answer_of};
 ghost use Rattle.filters.specs.Stage.Down2.{down2_sum, down2_next, down2, down2_end};
 ghost use Rattle.stages.specs.Entry.{down2_outcome};
 
-use crate::answer::Answer;
+use crate::answer::Answered;
 use crate::{answer, words};
 use filters::allpass::Words;
 use filters::down2::step;
 use filters::rates;
-
-// What a call answers, and the words after it.
-#[derive(Clone, Copy)]
-pub struct Halved {
-    pub answer: Answer,
-    pub words: [i32; 2],
-}
 
 // The words between two parts of the input.
 #[derive(Clone, Copy)]
@@ -81,20 +74,13 @@ fn decimate(words: [i32; 2], out: &mut [i16], input: &[i16]) -> [i32; 2]
 }
 
 // Takes an even number of samples, at most 48,000, and an output of just half as many places.
-pub fn silk_resampler_down2(words: [i32; 2], out: &mut [i16], input: &[i16]) -> Halved
-    ensures { outcome result.answer result.words out.new ≡ down2_outcome words input.now out.old }
+pub fn silk_resampler_down2(words: [i32; 2], out: &mut [i16], input: &[i16]) -> Answered<[i32; 2]>
+    ensures { outcome (answer_of result.answer) result.state out.new ≡ down2_outcome words input.now out.old }
 {
     let half = input.len() / 2;
-    let row = answer::half_row(input.len(), out.len() == half);
-    if row != 0 {
-        return Halved {
-            answer: Answer::Refused(row),
-            words,
-        };
+    if let Some(refusal) = answer::half_refusal(input.len(), out.len() == half) {
+        return Answered::refused(refusal, words);
     }
-    let w = decimate(words, out, input);
-    Halved {
-        answer: Answer::Done { written: half },
-        words: w,
-    }
+    let after = decimate(words, out, input);
+    Answered::done(half, after)
 }

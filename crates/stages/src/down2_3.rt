@@ -4,21 +4,14 @@
 ghost use Rattle.std.specs.Prelude.{◌≡◌, ◌*◌, ◌/◌, ◌%◌, ◌<◌, ◌≤◌, length};
 ghost use Rattle.filters.specs.Lists.{◌!◌};
 ghost use Rattle.filters.specs.Rom.{silk_Resampler_2_3_COEFS_LQ};
-ghost use Rattle.stages.specs.Outcome.{Staged, outcome};
+ghost use Rattle.stages.specs.Outcome.{Staged, outcome, answer_of, row};
 ghost use Rattle.filters.specs.Stage.Down2_3.{down23, down23_end};
 ghost use Rattle.stages.specs.Entry.{down23_row, down23_outcome};
 
 use crate::answer;
-use crate::answer::Answer;
+use crate::answer::{Answered, Refusal};
 use filters::down2_3::{Words, group_of};
 use filters::rom;
-
-// What a call answers, and the words after it.
-#[derive(Clone, Copy)]
-pub struct Thirds {
-    pub answer: Answer,
-    pub words: [i32; 6],
-}
 
 // Fills the front of the output and returns the words after the input.
 fn decimate(words: [i32; 6], out: &mut [i16], input: &[i16], t: &[i64; 6]) -> [i32; 6]
@@ -43,35 +36,30 @@ fn decimate(words: [i32; 6], out: &mut [i16], input: &[i16], t: &[i64; 6]) -> [i
     s.w
 }
 
-// The row of n samples and an output of `room` places; 0 is none.
-fn third_row(n: usize, room: usize) -> u8
-    ensures { result ≡ down23_row n room }
+// What n samples and an output of `room` places are refused for.
+fn third_refusal(n: usize, room: usize) -> Option<Refusal>
+    ensures { row result ≡ down23_row n room }
 {
     if n % 3 != 0 {
-        return 6;
+        return Some(Refusal::NotInGroups);
     }
     if answer::MOST_SAMPLES < n {
-        return 4;
+        return Some(Refusal::TooLong);
     }
-    if room < 2 * (n / 3) { 5 } else { 0 }
+    if room < 2 * (n / 3) {
+        Some(Refusal::OutputTooShort)
+    } else {
+        None
+    }
 }
 
 // Takes a multiple of three samples, at most 48,000, and an output with room for two of each three.
-pub fn silk_resampler_down2_3(words: [i32; 6], out: &mut [i16], input: &[i16]) -> Thirds
-    ensures { outcome result.answer result.words out.new ≡ down23_outcome words input.now out.old }
+pub fn silk_resampler_down2_3(words: [i32; 6], out: &mut [i16], input: &[i16]) -> Answered<[i32; 6]>
+    ensures { outcome (answer_of result.answer) result.state out.new ≡ down23_outcome words input.now out.old }
 {
-    let row = third_row(input.len(), out.len());
-    if row != 0 {
-        return Thirds {
-            answer: Answer::Refused(row),
-            words,
-        };
+    if let Some(refusal) = third_refusal(input.len(), out.len()) {
+        return Answered::refused(refusal, words);
     }
-    let w = decimate(words, out, input, &rom::silk_Resampler_2_3_COEFS_LQ);
-    Thirds {
-        answer: Answer::Done {
-            written: 2 * (input.len() / 3),
-        },
-        words: w,
-    }
+    let after = decimate(words, out, input, &rom::silk_Resampler_2_3_COEFS_LQ);
+    Answered::done(2 * (input.len() / 3), after)
 }

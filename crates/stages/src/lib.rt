@@ -13,12 +13,12 @@ mod iir_fir;
 mod up2_hq;
 mod words;
 
-pub use ana_filt_bank_1::{Split, silk_ana_filt_bank_1};
-pub use answer::Answer;
+pub use ana_filt_bank_1::silk_ana_filt_bank_1;
+pub use answer::{Answered, Refusal};
 pub use ar2::silk_resampler_private_AR2;
 pub use down_fir::{DownPass, DownWords, silk_resampler_private_down_FIR};
-pub use down2::{Halved, silk_resampler_down2};
-pub use down2_3::{Thirds, silk_resampler_down2_3};
+pub use down2::silk_resampler_down2;
+pub use down2_3::silk_resampler_down2_3;
 pub use filters::rates::Rates;
 pub use filters::rom;
 pub use iir_fir::{IirFirPass, IirFirWords, silk_resampler_private_IIR_FIR};

@@ -1,6 +1,6 @@
 -- Outcomes: what a row leads to, what the shared rows show where none applies, and an output that is filled to its end.
 -- Assumes nothing.
-use Rattle.std.specs.Prelude.{if◌then◌else◌}
+use Rattle.std.specs.Prelude.{if◌then◌else◌, Result, Ok, Err}
 use mathlib.Core.Path.{◌≡◌, refl}
 use mathlib.Core.Bool.{Bool, true, false, not}
 use mathlib.Core.List.{List, append-nil}
@@ -9,18 +9,37 @@ use native.Mathlib.Omega.{arith}
 use borrow.Author.Tests.{eq-eqb, ne_eqb, eqb-true, ltb-false}
 use lib.Dec.{ltb, eqb}
 use lib.ListN.{length, drop_of_length-le}
-use Rattle.stages.specs.declared.answer.Answer.TheVariants.{Refused}
-use Rattle.stages.specs.Outcome.{Outcome, outcome, ruled, over}
+use Rattle.stages.specs.declared.answer.Refusal.{Refusal}
+use Rattle.stages.specs.declared.answer.Refusal.TheVariants.{PairNotListed, NoSupportedPair, NotWholeMilliseconds, TooLong, OutputTooShort, NotInGroups, NotHalf, NotABlock, CheckDiffers, LayoutUnknown, BlockPairUnsupported, DeadNotZero}
+use Rattle.stages.specs.Outcome.{Done, Outcome, outcome, ruled, over, row_of, answer_of}
 use Rattle.stages.specs.Entry.{half_row, down23_row, most_samples}
 
-module _ {S L : Type 0} (s : S) (l : L) (done : Outcome S L) {row r : ℕ} (e : row ≡ r) where
-  -- a row applies: the state and what was lent are as they were
-  pub ruled-refused : (row ≡ 0 → ⊥) → outcome (Refused row) s l ≡ ruled r s l done
-  ruled-refused h = rw (← e) (simp (ne_eqb row 0 h))
+-- no refusal is row 0
+pub refusal-is-no-0 : (refusal : Refusal) → row_of refusal ≡ 0 → ⊥
+refusal-is-no-0 = elim [
+  | PairNotListed ↦ λ e. omega arith
+  | NoSupportedPair ↦ λ e. omega arith
+  | NotWholeMilliseconds ↦ λ e. omega arith
+  | TooLong ↦ λ e. omega arith
+  | OutputTooShort ↦ λ e. omega arith
+  | NotInGroups ↦ λ e. omega arith
+  | NotHalf ↦ λ e. omega arith
+  | NotABlock ↦ λ e. omega arith
+  | CheckDiffers ↦ λ e. omega arith
+  | LayoutUnknown ↦ λ e. omega arith
+  | BlockPairUnsupported ↦ λ e. omega arith
+  | DeadNotZero ↦ λ e. omega arith
+]
 
-  -- none does
-  pub ruled-done : row ≡ 0 → {o : Outcome S L} → o ≡ done → o ≡ ruled r s l done
-  ruled-done h d = rw (← e) (simp (eq-eqb row 0 h) d)
+module _ {S L : Type 0} (s : S) (l : L) {r : ℕ} {a : Result ℕ Refusal} {t : S} where
+  -- a row applies: the state and what was lent are as they were
+  pub ruled-refused : (done : Outcome S L) (refusal : Refusal) → row_of refusal ≡ r → (a ≡ Err refusal) × (t ≡ s) → outcome (answer_of a) t l ≡ ruled r s l done
+  ruled-refused done refusal e (h, k) =
+      rw (h, k) (rw (← e) (simp (ne_eqb (row_of refusal) 0 (refusal-is-no-0 refusal))))
+
+  -- none does: the state is what was kept, and what was lent what was made
+  pub ruled-done : 0 ≡ r → {n : ℕ} {u kept : S} {lent made : L} → (a ≡ Ok n) × (t ≡ u) → u ≡ kept → lent ≡ made → outcome (answer_of a) t lent ≡ ruled r s l (outcome (Done n) kept made)
+  ruled-done e (h, k) c m = rw (h, k, c, m) (rw (← e) refl)
 
 -- where no row applies to the 1/2 decimator or the split, the outputs are just half as long
 pub half-fits : (n : ℕ) (half : Bool) → half_row n half ≡ 0 → half ≡ true
