@@ -3,26 +3,20 @@
 ghost use Rattle.std.specs.Prelude.{◌≡◌, ◌<◌, ◌≤◌, nat_abs, length};
 ghost use Rattle.fixed.specs.Ar2.{◌!◌, ar2_out, ar2_after};
 
-// The words between two samples.
-#[derive(Clone, Copy)]
-pub struct Words {
-    pub w: [i32; 2],
-}
-
 // The output for one sample.
-pub fn filtered(s: Words, x: i16) -> i32
-    ensures { result ≡ ar2_out s.w x }
+pub fn filtered(s: [i32; 2], x: i16) -> i32
+    ensures { result ≡ ar2_out s x }
 {
-    crate::add(s.w[0], 256 * (x as i32))
+    crate::add(s[0], 256 * (x as i32))
 }
 
 // The words after an output.
-pub fn moved(s: Words, out32: i32, AQ14: &[i64]) -> Words
+pub fn moved(s: [i32; 2], out32: i32, AQ14: &[i64]) -> [i32; 2]
     requires { (2 ≤ length AQ14.now) × (nat_abs (AQ14.now ! 0) < 65536) × (nat_abs (AQ14.now ! 1) < 65536) }
-    ensures { result.w ≡ ar2_after AQ14.now s.w out32 }
+    ensures { result ≡ ar2_after AQ14.now s out32 }
 {
     let q = crate::shl2(out32);
-    let s0 = crate::add(s.w[1], crate::mul_wide(AQ14[0], q));
+    let s0 = crate::add(s[1], crate::mul_wide(AQ14[0], q));
     let s1 = crate::mul_wide(AQ14[1], q);
-    Words { w: [s0, s1] }
+    [s0, s1]
 }

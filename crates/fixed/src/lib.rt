@@ -7,25 +7,18 @@ ghost use Rattle.fixed.specs.Fixed.{wrapped, times, clipped, narrowed};
 
 pub mod ar2;
 
-// The low 32 bits of z, read as signed.
-fn wrap(z: i64) -> i32
-    ensures { result ≡ wrapped z }
-{
-    ((z << 32) >> 32) as i32
-}
-
 // a + b in 32 bits.
 pub fn add(a: i32, b: i32) -> i32
     ensures { result ≡ wrapped (a +ℤ b) }
 {
-    wrap(a as i64 + b as i64)
+    a.wrapping_add(b)
 }
 
 // a - b in 32 bits.
 pub fn sub(a: i32, b: i32) -> i32
     ensures { result ≡ wrapped (a -ℤ b) }
 {
-    wrap(a as i64 - b as i64)
+    a.wrapping_sub(b)
 }
 
 // 4 x in 32 bits.
@@ -55,13 +48,7 @@ pub fn mul_wide(c: i64, y: i32) -> i32
 pub fn clip(r: i32) -> i16
     ensures { result ≡ clipped r }
 {
-    if r < -32768 {
-        return -32768;
-    }
-    if 32767 < r {
-        return 32767;
-    }
-    r as i16
+    r.clamp(-32768, 32767) as i16
 }
 
 // x / 2^n rounded to the nearest, halves upwards, and clipped: silk_SAT16 of silk_RSHIFT_ROUND.

@@ -109,6 +109,10 @@ unfolding P N
 of_ℤ-cong w (pos n) f = record { k = 0; l = 0; same = refl }
 of_ℤ-cong w (negsuc n) f = record { k = 1; l = 0; same = omega (arith, f.sfits, halves w) }
 
+of_z-lt : (w : Width) (z : ℤ) → SFits w z → of_z w z < 2 ^ bits w
+of_z-lt w (pos n) f = omega (arith, f.sfits, halves w)
+of_z-lt w (negsuc n) f = omega (arith, pow_pos (bits w))
+
 -- z << k, where m is 2^k
 abbrev shl : Width → ℤ → ℕ → ℤ
 shl w z m = to_z w ((of_z w z * m) % 2 ^ bits w)
@@ -134,15 +138,29 @@ shl-cong w z m f =
 pub shl-wrap : (x : ℤ) (m : ℕ) → SFits w32 x → shl w32 x m ≡ wrapped (pos m *ℤ x)
 shl-wrap x m f = sym (wrap-unique (pos m *ℤ x) (shl w32 x m) (shl-cong w32 x m f) (shl-fits w32 x m))
 
--- (z << 32) >> 32 on 64 bits
-pub shl-shr : (z : ℤ) → SFits w64 z → shr_z (shl w64 z 4294967296) 4294967296 ≡ wrapped z
+-- what the bits u become, read as signed, for a u that differs from z by a multiple of 2^32
+bits-wrap : (z : ℤ) (u : ℕ) → Cong 4294967296 z (pos u) → to_z w32 (u % 4294967296) ≡ wrapped z
 unfolding P N
-shl-shr z f =
-    let y = shl w64 z 4294967296 in
-    let q = shr_z y 4294967296 in
-    let c = shl-cong w64 z 4294967296 f in
-    let b = shr-floor y 4294967296 (omega arith) in
-    let g = fits-pn w64 y (shl-fits w64 z 4294967296) in
-    sym (wrap-unique z q
-    (record { k = c.k; l = c.l; same = omega (arith, c.same, p-scale 4294967296 z, n-scale 4294967296 z, b) })
-    (pn-fits w32 q (⊎_elim (λ h. omega (arith, b, g)) (λ h. omega (arith, b, g)) (pn-or q)) (⊎_elim (λ h. omega (arith, b, g)) (λ h. omega (arith, b, g)) (pn-or q))))
+bits-wrap z u c =
+    let r = u % 4294967296 in
+    let e = to_ℤ-cong w32 r (NatL.mod-lt u (pow_pos (bits w32))) in
+    sym (wrap-unique z (to_z w32 r)
+    (record { k = c.k + e.l; l = c.l + u / 4294967296 + e.k; same = omega (arith, c.same, e.same, NatL.div-add-mod' u 4294967296) })
+    (to_z-Fits w32 _ (record { fits = NatL.mod-lt u (pow_pos (bits w32)) })))
+
+-- a + b and a - b on 32 bits
+module _ (a b : ℤ) (f : SFits w32 a) (g : SFits w32 b) where
+  pub sum_wraps : to_z w32 ((of_z w32 a + of_z w32 b) % 4294967296) ≡ wrapped (a +ℤ b)
+  unfolding P N
+  sum_wraps =
+      let p = of_ℤ-cong w32 a f in
+      let q = of_ℤ-cong w32 b g in
+      bits-wrap (a +ℤ b) _ (record { k = p.k + q.k; l = p.l + q.l; same = omega (arith, p.same, q.same, pn-sum a b) })
+
+  pub difference_wraps : to_z w32 ((of_z w32 a + (4294967296 - of_z w32 b)) % 4294967296) ≡ wrapped (a -ℤ b)
+  unfolding P N
+  difference_wraps =
+      let p = of_ℤ-cong w32 a f in
+      let q = of_ℤ-cong w32 b g in
+      let h = of_z-lt w32 b g in
+      bits-wrap (a -ℤ b) _ (record { k = p.k + q.l + 1; l = p.l + q.k; same = omega (arith, p.same, q.same, pn-sum a (neg_ℤ b), p-neg b, n-neg b) })
