@@ -1,6 +1,6 @@
 -- Reading a buffer at fractional positions, and the sums of products that are read there.
 -- Shared by the interpolator, the down filters and, for the sums, the 2/3 decimator. Assumes nothing.
-use Rattle.std.specs.Prelude.{◌≡◌, true, ℕ, ◌+◌, ◌-◌, ◌*◌, ◌/◌, ◌%◌, ◌<◌, ◌≤◌, List, [], ◌∷◌, ◌++◌, reverse, ltb, ℤ, nat_abs, ◌+ℤ◌, length, drop, get_or}
+use Rattle.std.specs.Prelude.{◌≡◌, true, ℕ, ◌+◌, ◌-◌, ◌*◌, ◌/◌, ◌%◌, ◌<◌, ◌≤◌, List, [], ◌∷◌, ◌++◌, reverse, Bool, ltb, ℤ, nat_abs, ◌+ℤ◌, length, drop, get_or}
 use Rattle.filters.specs.declared.rates.Rates.{Rates}
 use Rattle.filters.specs.Lists.{tabulate, every}
 use Rattle.fixed.specs.Fixed.{wrapped}
@@ -35,12 +35,15 @@ mirrored rows fraction =
     get_or rows k [] ++ reverse (get_or rows (length rows - 1 - k) [])
 
 -- s and then, for each coefficient, its product with its sample, added up in an i32
-module _ (product : ℤ → ℤ → ℤ) where
-  unfoldable pub sum : ℤ → List ℤ → List ℤ → ℤ
+module _ {C Y : Type 0} (product : C → Y → ℤ) where
+  unfoldable pub sum : ℤ → List C → List Y → ℤ
   sum s [] ys = s
   sum s (c ∷ cs) [] = s
   sum s (c ∷ cs) (y ∷ ys) = sum (wrapped (s +ℤ product c y)) cs ys
 
--- coefficients whose products fit a word: each below 65536 in size
+-- a coefficient whose products fit a word: below 65536 in size; and a table of them
+abbrev pub small? : ℤ → Bool
+small? c = ltb (nat_abs c) 65536
+
 abbrev pub Small : List ℤ → Type 0
-Small cs = every (λ c. ltb (nat_abs c) 65536) cs ≡ true
+Small cs = every small? cs ≡ true

@@ -1,6 +1,6 @@
 // The allpass section, alone and one each on the even and the odd samples of a signal.
 // Meaning: specs/Section.antt. The Rust writes it out in place, in the doubler, the 1/2 decimator and the split.
-ghost use Rattle.std.specs.Prelude.{◌≡◌, [], ◌∷◌, ◌<◌, nat_abs};
+ghost use Rattle.std.specs.Prelude.{◌≡◌, ◌<◌, nat_abs};
 ghost use Rattle.filters.specs.Section.{scaled, section_out, section_next, even_out, odd_out, halves_next};
 
 // What a section puts out, and its word for the next input.
@@ -10,19 +10,12 @@ pub struct Section {
     pub word: i32,
 }
 
-// The words of the two sections, between two turns of a loop. Two fields: an array of two would travel in one register.
-#[derive(Clone, Copy)]
-pub struct Words {
-    pub even: i32,
-    pub odd: i32,
-}
-
-// What the two sections put out, and their words.
+// What the two sections put out, and their words: the even section's, then the odd one's.
 #[derive(Clone, Copy)]
 pub struct Halves {
     pub even: i32,
     pub odd: i32,
-    pub words: Words,
+    pub words: [i32; 2],
 }
 
 // A sample at the sections' scale.
@@ -43,19 +36,16 @@ pub fn allpass(a: i32, s: i32, x: i32) -> Section
 }
 
 // Section a on the even sample x and section b on the odd sample y.
-pub fn both(a: i32, b: i32, s: Words, x: i16, y: i16) -> Halves
+pub fn both(a: i32, b: i32, words: [i32; 2], x: i16, y: i16) -> Halves
     requires { (nat_abs a < 65536) × (nat_abs b < 65536) }
-    ensures even_value { (result.even ≡ even_out a (s.even ∷ s.odd ∷ []) (x, y)) × (result.odd ≡ odd_out b (s.even ∷ s.odd ∷ []) (x, y)) }
-    ensures odd_value { result.words.even ∷ result.words.odd ∷ [] ≡ halves_next a b (s.even ∷ s.odd ∷ []) (x, y) }
+    ensures outputs { (result.even ≡ even_out a words (x, y)) × (result.odd ≡ odd_out b words (x, y)) }
+    ensures words { result.words ≡ halves_next a b words (x, y) }
 {
-    let e = allpass(a, s.even, scale(x));
-    let o = allpass(b, s.odd, scale(y));
+    let e = allpass(a, words[0], scale(x));
+    let o = allpass(b, words[1], scale(y));
     Halves {
         even: e.out,
         odd: o.out,
-        words: Words {
-            even: e.word,
-            odd: o.word,
-        },
+        words: [e.word, o.word],
     }
 }

@@ -1,9 +1,8 @@
 // The split, two samples at a time. From silk/ana_filt_bank_1.rs. Meaning: specs/Stage/AnaFiltBank1.antt.
 // The coefficients are constants.
-ghost use Rattle.std.specs.Prelude.{◌≡◌, [], ◌∷◌};
+ghost use Rattle.std.specs.Prelude.{◌≡◌};
 ghost use Rattle.filters.specs.Stage.AnaFiltBank1.{low_out, high_out, split_next};
 
-use crate::allpass::Words;
 use crate::{allpass, rom};
 
 // Both bands' outputs for two samples, and the words after them.
@@ -11,14 +10,14 @@ use crate::{allpass, rom};
 pub struct Banded {
     pub low: i16,
     pub high: i16,
-    pub words: Words,
+    pub words: [i32; 2],
 }
 
-pub fn step(s: Words, x: i16, y: i16) -> Banded
-    ensures low_value { (result.low ≡ low_out (s.even ∷ s.odd ∷ []) (x, y)) × (result.high ≡ high_out (s.even ∷ s.odd ∷ []) (x, y)) }
-    ensures odd_value { result.words.even ∷ result.words.odd ∷ [] ≡ split_next (s.even ∷ s.odd ∷ []) (x, y) }
+pub fn step(words: [i32; 2], x: i16, y: i16) -> Banded
+    ensures bands { (result.low ≡ low_out words (x, y)) × (result.high ≡ high_out words (x, y)) }
+    ensures words { result.words ≡ split_next words (x, y) }
 {
-    let h = allpass::both(rom::A_fb1_21, rom::A_fb1_20, s, x, y);
+    let h = allpass::both(rom::A_fb1_21, rom::A_fb1_20, words, x, y);
     let low = fixed::narrow(fixed::add(h.odd, h.even), 11);
     let high = fixed::narrow(fixed::sub(h.odd, h.even), 11);
     let words = h.words;

@@ -1,29 +1,83 @@
 // One output of a down filter: as many taps as the order. From silk/resampler/down_fir.rs. Meaning: specs/Stage/DownFir.antt.
-ghost use Rattle.std.specs.Prelude.{◌≡◌, ◌+◌, ◌*◌, ◌-◌, ◌/◌, ◌<◌, ◌≤◌, length};
-ghost use Rattle.filters.specs.Reader.{Small};
+ghost use Rattle.std.specs.Prelude.{◌≡◌, ◌<◌, ◌≤◌, length};
 ghost use Rattle.filters.specs.Stage.DownFir.{Fitting, filter_of, apart, filtered};
 
-use crate::taps;
+use crate::reader::Reader;
+use crate::{rom, taps};
 
-// Order 18: nine taps of the fraction's row forward, nine of its mirror backward.
-fn apart_of(cs: &[i64], rows: usize, fraction: usize, ys: &[i32]) -> i32
-    requires { (length cs.now ≡ 2 + 9 * rows) × (0 < rows) × (rows ≤ 3) × (fraction < 65536) × (18 ≤ length ys.now) × Small cs.now }
-    ensures { result ≡ apart (filter_of 18 cs.now) fraction ys.now }
-{
-    let k = fraction * rows / 65536;
-    let m = rows - 1 - k;
-    let front = taps::nine_forward(0, cs, 2 + 9 * k, ys);
-    taps::nine_backward(front, cs, 2 + 9 * m, ys)
+// A filter: two constants of AR2 and then the rows of taps, the order, and the number of rows.
+#[derive(Clone, Copy)]
+pub struct Filter<'a> {
+    pub coefs: &'a [i64],
+    pub order: usize,
+    pub rows: usize,
+    pub ghost fitting: { Fitting order rows coefs.now },
 }
 
-// One output, before it is narrowed: the samples from a whole position on, at a fraction.
-pub fn output(cs: &[i64], order: usize, rows: usize, fraction: usize, ys: &[i32]) -> i32
-    requires fitting { Fitting order rows cs.now }
-    requires fraction_bound { (fraction < 65536) × (order ≤ length ys.now) }
-    ensures { result ≡ filtered (filter_of order cs.now) fraction ys.now }
-{
-    if order <= 18 {
-        return apart_of(cs, rows, fraction, ys);
+// The six, by the ratio of the rates out and in.
+pub const DOWN_3_4: Filter<'static> = Filter {
+    coefs: &rom::silk_Resampler_3_4_COEFS,
+    order: rom::RESAMPLER_DOWN_ORDER_FIR0,
+    rows: 3,
+};
+
+pub const DOWN_2_3: Filter<'static> = Filter {
+    coefs: &rom::silk_Resampler_2_3_COEFS,
+    order: rom::RESAMPLER_DOWN_ORDER_FIR0,
+    rows: 2,
+};
+
+pub const DOWN_1_2: Filter<'static> = Filter {
+    coefs: &rom::silk_Resampler_1_2_COEFS,
+    order: rom::RESAMPLER_DOWN_ORDER_FIR1,
+    rows: 1,
+};
+
+pub const DOWN_1_3: Filter<'static> = Filter {
+    coefs: &rom::silk_Resampler_1_3_COEFS,
+    order: rom::RESAMPLER_DOWN_ORDER_FIR2,
+    rows: 1,
+};
+
+pub const DOWN_1_4: Filter<'static> = Filter {
+    coefs: &rom::silk_Resampler_1_4_COEFS,
+    order: rom::RESAMPLER_DOWN_ORDER_FIR2,
+    rows: 1,
+};
+
+pub const DOWN_1_6: Filter<'static> = Filter {
+    coefs: &rom::silk_Resampler_1_6_COEFS,
+    order: rom::RESAMPLER_DOWN_ORDER_FIR2,
+    rows: 1,
+};
+
+impl Filter<'_> {
+    // Order 18: nine taps of the fraction's row forward, nine of its mirror backward.
+    fn apart(&self, fraction: usize, ys: &[i32]) -> i32
+        requires { (self.now.order ≡ 18) × (fraction < 65536) × (18 ≤ length ys.now) }
+        ensures { result ≡ apart (filter_of 18 self.now.coefs.now) fraction ys.now }
+    {
+        let k = fraction * self.rows / 65536;
+        let m = self.rows - 1 - k;
+        let row = 2 + 9 * k;
+        let mirror = 2 + 9 * m;
+        let front = taps::forward(0, &self.coefs[row..row + 9], &ys[..9]);
+        taps::backward(front, &self.coefs[mirror..mirror + 9], &ys[9..18])
     }
-    taps::half_inward(cs, 2, ys, order)
+}
+
+impl Reader for Filter<'_> {
+    type Sample = i32;
+
+    ghost reach = { λ f. f.order };
+
+    ghost reading = { λ f. filtered (filter_of f.order f.coefs.now) };
+
+    fn output(&self, fraction: usize, from: &[i32]) -> i32 {
+        if self.order <= 18 {
+            return self.apart(fraction, from);
+        }
+        let end = 2 + self.order / 2;
+        taps::inward(&self.coefs[2..end], &from[..self.order])
+    }
 }

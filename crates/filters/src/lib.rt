@@ -10,6 +10,7 @@ pub mod down2_3;
 pub mod down_fir;
 pub mod iir_fir;
 pub mod rates;
+pub mod reader;
 pub mod rom;
 mod taps;
 pub mod up2_hq;

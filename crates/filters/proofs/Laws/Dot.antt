@@ -1,69 +1,66 @@
--- Sums of products in groups: a few written out, and a group more behind others. Assumes nothing.
-use mathlib.Core.Path.{◌≡◌, refl, sym, ◌∙◌}
-use mathlib.Core.List.{List, [], ◌∷◌, ◌++◌}
-use Prim.Native.Nat.{ℕ, ◌+◌, ◌≤◌}
+-- Sums of products: of none, of one row behind another, of as many samples as there are coefficients. Assumes nothing.
+use mathlib.Core.Path.{◌≡◌, refl, sym}
+use mathlib.Core.List.{List, [], ◌∷◌, ◌++◌, reverse}
+use Prim.Native.Nat.{ℕ, ◌+◌, ◌-◌, ◌/◌, ◌<◌, ◌≤◌}
 use native.Mathlib.Nat.{not-suc-le-zero, le_of_suc-le-suc}
 use native.Mathlib.Omega.{arith}
-use lib.IntN.{ℤ, ◌+ℤ◌}
-use lib.ListN.{length, take, drop, length-drop}
-use lib.Seq.{drop-drop, take-add, length-take-le}
-use Rattle.filters.specs.Lists.{◌!◌}
+use lib.IntN.{ℤ, pos, ◌+ℤ◌}
+use lib.ListN.{length, take, drop, get_or}
+use Rattle.std.proofs.lemmas.List.{reverse-append, length-take-le, get_or-take}
 use Rattle.fixed.specs.Fixed.{wrapped}
 use Rattle.filters.specs.Reader.{sum}
-use Rattle.filters.proofs.Laws.Lists.{take-two, take-three}
+use Rattle.filters.specs.Lists.{◌!◌}
+use Rattle.filters.specs.Stage.DownFir.{outer_sums}
+use Rattle.filters.proofs.Laws.Lists.{drop-next, tabulate-at, tabulate-same}
 
-module _ (product : ℤ → ℤ → ℤ) where
+module _ {C Y : Type 0} (product : C → Y → ℤ) where
+  -- no coefficients are left
+  pub sum-none : (s : ℤ) (cs : List C) (ys : List Y) → length cs ≡ 0 → sum product s cs ys ≡ s
+  unfolding sum
+  sum-none s [] ys h = refl
+  sum-none s (c ∷ cs) ys h = absurd (omega arith)
+
   -- the first coefficients, then the others over what follows
-  pub sum-append : (s : ℤ) (cs ds ys : List ℤ) → length cs ≤ length ys
+  pub sum-append : (s : ℤ) (cs ds : List C) (ys : List Y) → length cs ≤ length ys
       → sum product s (cs ++ ds) ys ≡ sum product (sum product s cs ys) ds (drop (length cs) ys)
   unfolding sum
   sum-append s [] ds ys h = refl
   sum-append s (c ∷ cs) ds [] h = absurd (not-suc-le-zero h)
   sum-append s (c ∷ cs) ds (y ∷ ys) h = sum-append (wrapped (s +ℤ product c y)) cs ds ys (le_of_suc-le-suc h)
 
-  -- the same, where the first are n
-  pub sum-parts : (s : ℤ) (cs ds ys : List ℤ) (n : ℕ) → length cs ≡ n → n ≤ length ys
-      → sum product (sum product s cs ys) ds (drop n ys) ≡ sum product s (cs ++ ds) ys
-  sum-parts s cs ds ys n e h = rw (← e) (sym (sum-append s cs ds ys (omega arith)))
-
   -- only as many samples are read as there are coefficients
-  sum-front : (s : ℤ) (cs ys : List ℤ) → sum product s cs (take (length cs) ys) ≡ sum product s cs ys
+  pub sum-front : (s : ℤ) (cs : List C) (ys : List Y) (n : ℕ) → length cs ≡ n → sum product s cs (take n ys) ≡ sum product s cs ys
   unfolding sum
-  sum-front s [] ys = refl
-  sum-front s (c ∷ cs) [] = refl
-  sum-front s (c ∷ cs) (y ∷ ys) = sum-front (wrapped (s +ℤ product c y)) cs ys
+  sum-front s [] ys n h = refl
+  sum-front s (c ∷ cs) [] n h = rw (sym h) refl
+  sum-front s (c ∷ cs) (y ∷ ys) n h = rw (sym h) (sum-front (wrapped (s +ℤ product c y)) cs ys (length cs) refl)
 
-  -- two and three, with the samples from a place on
-  module _ (s : ℤ) (ys : List ℤ) (at : ℕ) where
-    pub sum-two : (a b : ℤ) → at + 2 ≤ length ys → sum product s (a ∷ b ∷ []) (ys ! at ∷ ys ! (at + 1) ∷ []) ≡ sum product s (a ∷ b ∷ []) (drop at ys)
-    sum-two a b h = rw (← take-two ys at h) (sum-front s (a ∷ b ∷ []) (drop at ys))
+  -- a row forward and another behind it, from two parts of the samples
+  pub sum-rows : (s : ℤ) (cs ds : List C) (ys : List Y) (n m : ℕ) → length cs ≡ n → length ds ≡ m → n ≤ length ys
+      → sum product (sum product s cs (take n ys)) ds (take m (drop n ys)) ≡ sum product s (cs ++ ds) ys
+  sum-rows s cs ds ys n m h k l =
+      rw (sum-front s cs ys n h, sum-front (sum product s cs ys) ds (drop n ys) m k) (rw (← h) (sym (sum-append s cs ds ys (omega arith))))
 
-    pub sum-three : (a b c : ℤ) → at + 3 ≤ length ys
-        → sum product s (a ∷ b ∷ c ∷ []) (ys ! at ∷ ys ! (at + 1) ∷ ys ! (at + 2) ∷ []) ≡ sum product s (a ∷ b ∷ c ∷ []) (drop at ys)
-    sum-three a b c h = rw (← take-three ys at h) (sum-front s (a ∷ b ∷ c ∷ []) (drop at ys))
+  -- a product more, and what is left behind it
+  pub sum-next : (s : ℤ) (cs : List C) (ys : List Y) (k : ℕ) (c : C) (y : Y) → k < length cs → k < length ys
+      → sum product s (drop k cs) (drop k ys) ≡ sum product (wrapped (s +ℤ product (get_or cs k c) (get_or ys k y))) (drop (k + 1) cs) (drop (k + 1) ys)
+  unfolding sum
+  sum-next s cs ys k c y h l = rw (drop-next cs k c h, drop-next ys k y l) refl
 
-  -- more behind the first n
-  pub sum-on : (s : ℤ) (cs ds ys : List ℤ) (at n : ℕ) → length cs ≡ n → at + n ≤ length ys
-      → sum product (sum product s cs (drop at ys)) ds (drop (at + n) ys) ≡ sum product s (cs ++ ds) (drop at ys)
-  sum-on s cs ds ys at n e h = rw (← drop-drop n at ys) (sum-parts s cs ds (drop at ys) n e (omega (arith, length-drop at ys)))
+  -- the same from the last coefficient on
+  pub sum-back : (s : ℤ) (cs rest : List C) (ys more : List Y) (c : C) (y : Y) → cs ≡ rest ++ c ∷ [] → ys ≡ y ∷ more
+      → sum product s (reverse cs) ys ≡ sum product (wrapped (s +ℤ product c y)) (reverse rest) more
+  unfolding sum
+  sum-back s cs rest ys more c y e d = rw (e, d, reverse-append) refl
 
-  -- a group of m more taps of a table, behind the first n
-  module _ (s : ℤ) (cs ys : List ℤ) (c at n m : ℕ) (h : c + n ≤ length cs) (l : at + n ≤ length ys) where
-    pub sum_more : sum product (sum product s (take n (drop c cs)) (drop at ys)) (take m (drop (c + n) cs)) (drop (at + n) ys)
-        ≡ sum product s (take (n + m) (drop c cs)) (drop at ys)
-    sum_more =
-        let k : length (take n (drop c cs)) ≡ n = length-take-le n (drop c cs) (omega (arith, length-drop c cs)) in
-        sum-on s (take n (drop c cs)) (take m (drop (c + n) cs)) ys at n k l ∙ rw (take-add n m (drop c cs), drop-drop n c cs) refl
+-- the sum of a sample and its counterpart from the end
+pub outer-at : (ys : List ℤ) (k : ℕ) → k < length ys / 2 → outer_sums (length ys) ys ! k ≡ wrapped (ys ! k +ℤ ys ! (length ys - 1 - k))
+unfolding outer_sums
+outer-at ys k h = tabulate-at (length ys / 2) k (λ i. wrapped (ys ! i +ℤ ys ! (length ys - 1 - i))) (pos 0) h
 
-  -- three groups of three, and four of two, each from what the last one gave
-  module _ (s : ℤ) (ys : List ℤ) (at : ℕ) where
-    pub nine-taps : (a b c d e f g h i : ℤ) {p q r : ℤ} → at + 9 ≤ length ys → p ≡ sum product s (a ∷ b ∷ c ∷ []) (drop at ys)
-        → q ≡ sum product p (d ∷ e ∷ f ∷ []) (drop (at + 3) ys) → r ≡ sum product q (g ∷ h ∷ i ∷ []) (drop (at + 6) ys)
-        → r ≡ sum product s (a ∷ b ∷ c ∷ d ∷ e ∷ f ∷ g ∷ h ∷ i ∷ []) (drop at ys)
-    nine-taps a b c d e f g h i l x y z = z ∙ rw (y, x, sum-on s _ _ ys at 3 refl (omega arith), sum-on s _ _ ys at 6 refl (omega arith)) refl
-
-    pub eight-taps : (a b c d e f g h : ℤ) {p q r t : ℤ} → at + 8 ≤ length ys → p ≡ sum product s (a ∷ b ∷ []) (drop at ys)
-        → q ≡ sum product p (c ∷ d ∷ []) (drop (at + 2) ys) → r ≡ sum product q (e ∷ f ∷ []) (drop (at + 4) ys)
-        → t ≡ sum product r (g ∷ h ∷ []) (drop (at + 6) ys) → t ≡ sum product s (a ∷ b ∷ c ∷ d ∷ e ∷ f ∷ g ∷ h ∷ []) (drop at ys)
-    eight-taps a b c d e f g h l x y z w =
-        w ∙ rw (z, y, x, sum-on s _ _ ys at 2 refl (omega arith), sum-on s _ _ ys at 4 refl (omega arith), sum-on s _ _ ys at 6 refl (omega arith)) refl
+-- they are read from the first samples alone
+pub outer-front : (n : ℕ) (ys : List ℤ) → n ≤ length ys → outer_sums (length (take n ys)) (take n ys) ≡ outer_sums n ys
+unfolding outer_sums
+outer-front n ys h =
+    let at : (i : ℕ) → i < n → take n ys ! i ≡ ys ! i = λ i l. get_or-take n ys i (pos 0) l in
+    rw (length-take-le n ys h) (tabulate-same 0 (n / 2) _ _ (λ i l. λ t. wrapped (at i (omega arith) t +ℤ at (n - 1 - i) (omega arith) t)))

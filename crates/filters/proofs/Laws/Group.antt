@@ -12,10 +12,11 @@ use Rattle.filters.specs.Run.{run, end}
 use Rattle.fixed.specs.Fixed.{narrowed}
 use Rattle.filters.specs.Reader.{sum}
 use Rattle.filters.specs.Rom.{silk_Resampler_2_3_COEFS_LQ}
-use Rattle.fixed.specs.Ar2.{ar2_next, ar2_after}
+use Rattle.fixed.specs.Ar2.{ar2_out, ar2_next, ar2_after}
 use Rattle.filters.specs.Stage.Ar2.{ar2, ar2_end}
 use Rattle.filters.specs.Stage.Down2_3.{group_out, tapped, first_taps, second_taps, down23, down23_end}
 use Rattle.filters.proofs.Laws.Lengths.{ar2_end-length}
+use Rattle.filters.proofs.Laws.Lists.{spelt}
 
 -- ---- the groups of a buffer
 
@@ -43,14 +44,8 @@ last-behind a b c xs h =
 -- ---- six words, three samples and the rest
 
 pub six : (w : List ℤ) → length w ≡ 6 → w ≡ w ! 0 ∷ w ! 1 ∷ w ! 2 ∷ w ! 3 ∷ w ! 4 ∷ w ! 5 ∷ []
-six (a ∷ b ∷ c ∷ d ∷ e ∷ f ∷ []) h = refl
-six [] h = absurd (omega (arith, h))
-six (a ∷ []) h = absurd (omega (arith, h))
-six (a ∷ b ∷ []) h = absurd (omega (arith, h))
-six (a ∷ b ∷ c ∷ []) h = absurd (omega (arith, h))
-six (a ∷ b ∷ c ∷ d ∷ []) h = absurd (omega (arith, h))
-six (a ∷ b ∷ c ∷ d ∷ e ∷ []) h = absurd (omega (arith, h))
-six (a ∷ b ∷ c ∷ d ∷ e ∷ f ∷ g ∷ w) h = absurd (omega (arith, h))
+unfolding tabulate
+six w h = spelt 6 w h
 
 module _ (b0 b1 b2 b3 s0 s1 : ℤ) where
   abbrev words : List ℤ
@@ -59,19 +54,15 @@ module _ (b0 b1 b2 b3 s0 s1 : ℤ) where
   abbrev poles : List ℤ
   poles = s0 ∷ s1 ∷ []
 
-  -- one group, of which AR2 makes y0, y1 and y2 and leaves t0 and t1
-  module _ (x y z : ℤ) {y0 y1 y2 : ℤ} where
-    pub one_out : y0 ∷ y1 ∷ y2 ∷ [] ≡ ar2 silk_Resampler_2_3_COEFS_LQ poles (x ∷ y ∷ z ∷ [])
-        → down23 words (x ∷ y ∷ z ∷ [])
-        ≡ narrowed 6 (tapped first_taps (b0 ∷ b1 ∷ b2 ∷ b3 ∷ [])) ∷ narrowed 6 (tapped second_taps (b1 ∷ b2 ∷ b3 ∷ y0 ∷ [])) ∷ []
+  -- one group, of which AR2 makes ys and leaves ts
+  module _ (x y z : ℤ) {ys ts : List ℤ} (made : ys ≡ ar2 silk_Resampler_2_3_COEFS_LQ poles (x ∷ y ∷ z ∷ [])) (left : ts ≡ ar2_end silk_Resampler_2_3_COEFS_LQ poles (x ∷ y ∷ z ∷ [])) (n : length ys ≡ 3) (m : length ts ≡ 2) where
+    pub one_out : narrowed 6 (tapped first_taps (b0 ∷ b1 ∷ b2 ∷ b3 ∷ [])) ∷ narrowed 6 (tapped second_taps (b1 ∷ b2 ∷ b3 ∷ ys ! 0 ∷ [])) ∷ [] ≡ down23 words (x ∷ y ∷ z ∷ [])
     unfolding down23 joined tabulate group_out tapped sum
-    one_out e = λ i. joined (tabulate 0 1 (group_out (b0 ∷ b1 ∷ b2 ∷ b3 ∷ sym e i)))
+    one_out = λ i. joined (tabulate 0 1 (group_out (b0 ∷ b1 ∷ b2 ∷ b3 ∷ (sym (spelt 3 ys n) ∙ made) i)))
 
-    pub one_end : {t0 t1 : ℤ} → y0 ∷ y1 ∷ y2 ∷ [] ≡ ar2 silk_Resampler_2_3_COEFS_LQ poles (x ∷ y ∷ z ∷ [])
-        → t0 ∷ t1 ∷ [] ≡ ar2_end silk_Resampler_2_3_COEFS_LQ poles (x ∷ y ∷ z ∷ [])
-        → down23_end words (x ∷ y ∷ z ∷ []) ≡ b3 ∷ y0 ∷ y1 ∷ y2 ∷ t0 ∷ t1 ∷ []
-    unfolding down23_end
-    one_end e d = λ i. last 4 (b0 ∷ b1 ∷ b2 ∷ b3 ∷ sym e i) ++ sym d i
+    pub one_end : b3 ∷ ys ! 0 ∷ ys ! 1 ∷ ys ! 2 ∷ ts ! 0 ∷ ts ! 1 ∷ [] ≡ down23_end words (x ∷ y ∷ z ∷ [])
+    unfolding down23_end tabulate
+    one_end = λ i. last 4 (b0 ∷ b1 ∷ b2 ∷ b3 ∷ (sym (spelt 3 ys n) ∙ made) i) ++ (sym (spelt 2 ts m) ∙ left) i
 
   module _ (x y z : ℤ) (rest : List ℤ) where
     abbrev three : List ℤ
@@ -125,3 +116,9 @@ down23_end-length w xs h =
     let four = length-append (take 4 w) (ar2 silk_Resampler_2_3_COEFS_LQ (drop 4 w) xs) in
     let poles = ar2_end-length silk_Resampler_2_3_COEFS_LQ (drop 4 w) xs (length-drop 4 w ∙ omega arith) in
     length-append (last 4 new) _ ∙ omega (arith, length-take-le 4 w (omega arith))
+
+-- three steps of AR2 are its run over three samples
+pub three_steps : (A s : List ℤ) (x y z : ℤ) {p q r : ℤ} {a b c : List ℤ} → p ≡ ar2_out s x → a ≡ ar2_after A s p → q ≡ ar2_out a y → b ≡ ar2_after A a q
+    → r ≡ ar2_out b z → c ≡ ar2_after A b r → (p ∷ q ∷ r ∷ [] ≡ ar2 A s (x ∷ y ∷ z ∷ [])) × (c ≡ ar2_end A s (x ∷ y ∷ z ∷ []))
+unfolding ar2 ar2_end ar2_next run end
+three_steps A s x y z d e f g h i = (rw (h, g, f, e, d) refl, rw (i, h, g, f, e, d) refl)

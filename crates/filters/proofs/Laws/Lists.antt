@@ -34,34 +34,9 @@ unfolding tabulate
 take-each zero at xs h = refl
 take-each (suc n) at xs h = rw (drop-next xs at (pos 0) (omega arith)) (ap (λ (t : List ℤ). xs ! at ∷ t) (take-each n (at + 1) xs (omega arith)))
 
-pub take-two : (xs : List ℤ) (at : ℕ) → at + 2 ≤ length xs → take 2 (drop at xs) ≡ xs ! at ∷ xs ! (at + 1) ∷ []
-unfolding tabulate
-take-two xs at h = take-each 2 at xs h
-
-pub take-three : (xs : List ℤ) (at : ℕ) → at + 3 ≤ length xs → take 3 (drop at xs) ≡ xs ! at ∷ xs ! (at + 1) ∷ xs ! (at + 2) ∷ []
-unfolding tabulate
-take-three xs at h = let e : at + 1 + 1 ≡ at + 2 = omega arith in take-each 3 at xs h ∙ rw e refl
-
-pub take-nine : (xs : List ℤ) (at : ℕ) → at + 9 ≤ length xs → take 9 (drop at xs)
-    ≡ xs ! at ∷ xs ! (at + 1) ∷ xs ! (at + 2) ∷ xs ! (at + 3) ∷ xs ! (at + 4) ∷ xs ! (at + 5) ∷ xs ! (at + 6) ∷ xs ! (at + 7) ∷ xs ! (at + 8) ∷ []
-take-nine xs at h =
-    let six : at + 3 + 6 ≤ length xs = omega arith in
-    let more : (k m : ℕ) → at + k + m ≡ at + (k + m) = λ k m. omega arith in
-    take-add 3 6 (drop at xs) ∙ rw (drop-drop 3 at xs, take-add 3 3 (drop (at + 3) xs), drop-drop 3 (at + 3) xs, take-three xs at (omega arith), take-three xs (at + 3) (omega arith), take-three xs (at + 3 + 3) (omega arith), more 3 1, more 3 2, more 3 3, more 6 1, more 6 2)
-
-pub all_two : (xs : List ℤ) → length xs ≡ 2 → xs ≡ xs ! 0 ∷ xs ! 1 ∷ []
-all_two [] h = absurd (omega arith)
-all_two (x ∷ []) h = absurd (omega arith)
-all_two (x ∷ y ∷ []) h = refl
-all_two (x ∷ y ∷ z ∷ xs) h = absurd (omega arith)
-
-pub all-four : (xs : List ℤ) → length xs ≡ 4 → xs ≡ xs ! 0 ∷ xs ! 1 ∷ xs ! 2 ∷ xs ! 3 ∷ []
-all-four [] h = absurd (omega arith)
-all-four (a ∷ []) h = absurd (omega arith)
-all-four (a ∷ b ∷ []) h = absurd (omega arith)
-all-four (a ∷ b ∷ c ∷ []) h = absurd (omega arith)
-all-four (a ∷ b ∷ c ∷ d ∷ []) h = refl
-all-four (a ∷ b ∷ c ∷ d ∷ e ∷ xs) h = absurd (omega arith)
+-- a list of n, written out
+pub spelt : (n : ℕ) (xs : List ℤ) → length xs ≡ n → xs ≡ tabulate 0 n (λ j. xs ! j)
+spelt n xs h = sym (take_all n xs (omega arith)) ∙ take-each n 0 xs (omega arith)
 
 -- ---- tables
 
@@ -70,6 +45,12 @@ module _ {A : Type 0} where
   unfolding tabulate
   tabulate-length i zero f = refl
   tabulate-length i (suc n) f = ap suc (tabulate-length (i + 1) n f)
+
+  -- of functions that agree where they are asked
+  pub tabulate-same : (i n : ℕ) (f g : ℕ → A) → ((j : ℕ) → j < i + n → f j ≡ g j) → tabulate i n f ≡ tabulate i n g
+  unfolding tabulate
+  tabulate-same i zero f g h = refl
+  tabulate-same i (suc n) f g h = λ t. h i (omega arith) t ∷ tabulate-same (i + 1) n f g (λ j l. h j (omega arith)) t
 
   tabulate-from : (i n j : ℕ) (f : ℕ → A) (d : A) → j < n → get_or (tabulate i n f) j d ≡ f (i + j)
   unfolding tabulate

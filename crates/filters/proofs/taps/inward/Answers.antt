@@ -1,35 +1,29 @@
--- `filters::taps::inward` meets its contract: three sums of outer samples in a row, each with its tap.
+-- `filters::taps::inward` meets its contract: what is summed, and the products that are left, are the definition's sum.
 -- Assumes nothing.
-use mathlib.Core.Path.{◌∙◌, sym}
-use mathlib.Core.List.{[], ◌∷◌}
-use Prim.Native.Nat.{◌+◌}
-use native.Mathlib.Omega.{arith}
-use lib.ListN.{drop}
-use mir.Syntax.{w32}
+use Rattle.std.proofs.Common.{rules, arith, length, drop, length-drop}
+use lib.IntN.{pos}
 use Rattle.fixed.specs.Fixed.{times}
-use Rattle.filters.specs.Lists.{◌!◌}
-use Rattle.filters.specs.Reader.{sum}
+use Rattle.filters.specs.Reader.{small?}
 use Rattle.filters.specs.Stage.DownFir.{outer_sums}
-use Rattle.fixed.proofs.Laws.Fit.{back}
-use Rattle.filters.proofs.Laws.Lists.{take-three}
 use Rattle.filters.proofs.Laws.Lengths.{outer_sums-length}
-use Rattle.filters.proofs.Laws.Dot.{sum-three}
+use Rattle.filters.proofs.Laws.Dot.{sum-none, sum-next, outer-at}
+use Rattle.filters.proofs.Laws.Taps.{every-at}
 use Rattle.filters.proofs.taps.inward.Goals as goal
+
+pub more-all-requires : goal.more-all-requires
+more-all-requires c = let fits = every-at small? c.args.taps.now c.loop-k.k (pos 0) c.requires.1 (omega arith) in search rules
+
+pub loop-k-preserved : goal.loop-k-preserved
+loop-k-preserved c =
+    let ys = c.args.ys.now in
+    let k = c.loop-k.k in
+    let now = c.loop-k.invariant in
+    let next = sum-next times c.loop-k.all c.args.taps.now (outer_sums (length ys) ys) k (pos 0) (pos 0) (omega arith) (omega (arith, outer_sums-length (length ys) ys)) in
+    let outer = outer-at ys k (omega arith) in
+    search rules
 
 pub returns : goal.returns
 returns c =
-    let o2 = c.before in
-    let o1 = o2.before in
-    let o0 = o1.before in
-    let start = o0.before in
-    let a = start.args in
-    let cs = a.cs.now in
-    let ys = outer_sums a.order a.ys.now in
-    let acc = back w32 a.acc start.ranges.acc.sfits in
-    let y0 = back w32 o0.outer-y0.result o0.outer-y0.type_inv ∙ o0.outer-y0.ensures in
-    let y1 = back w32 o1.outer-y1.result o1.outer-y1.type_inv ∙ o1.outer-y1.ensures in
-    let y2 = back w32 o2.outer-y2.result o2.outer-y2.type_inv ∙ o2.outer-y2.ensures in
-    back w32 c.three.result c.three.type_inv ∙ c.three.ensures
-    ∙ (λ i. sum times (acc i) (cs ! a.c ∷ cs ! (a.c + 1) ∷ cs ! (a.c + 2) ∷ []) (y0 i ∷ y1 i ∷ y2 i ∷ []))
-    ∙ sum-three times a.acc ys a.k (cs ! a.c) (cs ! (a.c + 1)) (cs ! (a.c + 2)) (omega (arith, outer_sums-length a.order a.ys.now))
-    ∙ (λ i. sum times a.acc (sym (take-three cs a.c start.requires.0) i) (drop a.k ys))
+    let now = c.loop-k.invariant in
+    let none = sum-none times c.loop-k.all (drop c.loop-k.k c.args.taps.now) (drop c.loop-k.k (outer_sums (length c.args.ys.now) c.args.ys.now)) (omega (arith, length-drop c.loop-k.k c.args.taps.now)) in
+    search rules
