@@ -7,7 +7,7 @@ use Rattle.fixed.specs.Fixed.{wrapped}
 
 -- n outputs: output j stands j increments from the start, in 65536ths of a sample,
 -- and is f of the fraction there and of the samples from the whole position on
-unfoldable pub read : {B : Type 0} → (ℕ → List ℤ → B) → ℕ → ℕ → List ℤ → List B
+unfoldable pub read : {A B : Type 0} → (ℕ → List A → B) → ℕ → ℕ → List A → List B
 read f increment n buf = tabulate 0 n (λ j. f (j * increment % 65536) (drop (j * increment / 65536) buf))
 
 -- n samples of input are n / in-kHz milliseconds, and each makes out-kHz outputs

@@ -8,32 +8,22 @@ ghost use Rattle.stages.specs.Entry.{split_outcome};
 
 use crate::answer;
 use crate::answer::Answered;
-use filters::allpass::Words;
 use filters::ana_filt_bank_1::step;
 
 // Fills the front of both bands and returns the words after the input.
 fn bands(words: [i32; 2], low: &mut [i16], high: &mut [i16], input: &[i16]) -> [i32; 2]
-    requires { (length words ≡ 2) × (length input.now / 2 ≤ length low.old) × (length input.now / 2 ≤ length high.old) }
-    ensures staged { Staged (split_low words input.now) (split_end words input.now) low.old low.new result }
-    ensures staged_2 { Staged (split_high words input.now) (split_end words input.now) high.old high.new result }
+    requires { (length input.now / 2 ≤ length low.old) × (length input.now / 2 ≤ length high.old) }
+    ensures low { Staged (split_low words input.now) (split_end words input.now) low.old low.new result }
+    ensures high { Staged (split_high words input.now) (split_end words input.now) high.old high.new result }
 {
-    let half = input.len() / 2;
-    let mut s = Words {
-        even: words[0],
-        odd: words[1],
-    };
-    let mut k = 0;
-    while k < half {
-        let j = 2 * k;
-        let b = step(s, input[j], input[j + 1]);
-        let y = b.low;
-        let z = b.high;
-        low[k] = y;
-        high[k] = z;
-        s = b.words;
-        k += 1;
+    let mut w = words;
+    for (k, xs) in input.chunks_exact(2).enumerate() {
+        let b = step(w, xs[0], xs[1]);
+        low[k] = b.low;
+        high[k] = b.high;
+        w = b.words;
     }
-    [s.even, s.odd]
+    w
 }
 
 // Takes an even number of samples, at most 48,000, and two outputs of just half as many places.

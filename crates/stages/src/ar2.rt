@@ -5,10 +5,9 @@ ghost use Rattle.filters.specs.Lists.{◌!◌};
 ghost use Rattle.stages.specs.Outcome.{Staged};
 ghost use Rattle.filters.specs.Stage.Ar2.{ar2, ar2_end};
 
-use fixed::ar2::Words;
+use fixed::ar2::{filtered, moved};
 
 // Filters the input into the front of the output and returns the words after it. AQ14 is a table that begins with A0 and A1.
-// Two samples at a turn, and then one that is left over.
 pub fn silk_resampler_private_AR2(
     state: [i32; 2],
     outQ8: &mut [i32],
@@ -18,21 +17,12 @@ pub fn silk_resampler_private_AR2(
     requires { (length input.now ≤ length outQ8.old) × (2 ≤ length AQ14.now) × (nat_abs (AQ14.now ! 0) < 65536) × (nat_abs (AQ14.now ! 1) < 65536) }
     ensures { Staged (ar2 AQ14.now state input.now) (ar2_end AQ14.now state input.now) outQ8.old outQ8.new result }
 {
-    let mut s = Words { w: state };
-    let mut k = 0;
-    while k + 1 < input.len() {
-        let y = fixed::ar2::filtered(s, input[k]);
-        outQ8[k] = y;
-        let t = fixed::ar2::moved(s, y, AQ14);
-        let z = fixed::ar2::filtered(t, input[k + 1]);
-        outQ8[k + 1] = z;
-        s = fixed::ar2::moved(t, z, AQ14);
-        k += 2;
-    }
-    if k < input.len() {
-        let out32 = fixed::ar2::filtered(s, input[k]);
+    let mut s = state;
+    for (k, x) in input.iter().enumerate() {
+        let out32 = filtered(s, *x);
         outQ8[k] = out32;
-        s = fixed::ar2::moved(s, out32, AQ14);
+        let next = moved(s, out32, AQ14);
+        s = next;
     }
-    s.w
+    s
 }

@@ -2,38 +2,28 @@
 // From silk/resampler/down2_3.rs. Meaning: specs/Entry.antt. Unlike the Rust, the words go in and out by value, lengths that
 // do not fit are refused, and there is no buffer.
 ghost use Rattle.std.specs.Prelude.{◌≡◌, ◌*◌, ◌/◌, ◌%◌, ◌<◌, ◌≤◌, length};
-ghost use Rattle.filters.specs.Lists.{◌!◌};
-ghost use Rattle.filters.specs.Rom.{silk_Resampler_2_3_COEFS_LQ};
 ghost use Rattle.stages.specs.Outcome.{Staged, outcome, answer_of, row};
 ghost use Rattle.filters.specs.Stage.Down2_3.{down23, down23_end};
 ghost use Rattle.stages.specs.Entry.{down23_row, down23_outcome};
 
 use crate::answer;
 use crate::answer::{Answered, Refusal};
-use filters::down2_3::{Words, group_of};
-use filters::rom;
+use filters::down2_3::group_of;
 
 // Fills the front of the output and returns the words after the input.
-fn decimate(words: [i32; 6], out: &mut [i16], input: &[i16], t: &[i64; 6]) -> [i32; 6]
-    requires words_len { (length words ≡ 6) × (length input.now % 3 ≡ 0) × (t.now ≡ silk_Resampler_2_3_COEFS_LQ) }
-    requires input_in_bounds { 2 * (length input.now / 3) ≤ length out.old }
+fn decimate(words: [i32; 6], out: &mut [i16], input: &[i16]) -> [i32; 6]
+    requires { (length input.now % 3 ≡ 0) × (2 * (length input.now / 3) ≤ length out.old) }
     ensures { Staged (down23 words input.now) (down23_end words input.now) out.old out.new result }
 {
-    let groups = input.len() / 3;
-    let mut s = Words { w: words };
-    let mut k = 0;
-    while k < groups {
-        let i = 3 * k;
-        let g = group_of(s, input[i], input[i + 1], input[i + 2], t);
-        let j = 2 * k;
-        let first = g.first;
-        let second = g.second;
-        out[j] = first;
-        out[j + 1] = second;
-        s = g.words;
-        k += 1;
+    let mut w = words;
+    for (k, xs) in input.chunks_exact(3).enumerate() {
+        let g = group_of(w, xs[0], xs[1], xs[2]);
+        let [first, second] = g.out;
+        out[2 * k] = first;
+        out[2 * k + 1] = second;
+        w = g.words;
     }
-    s.w
+    w
 }
 
 // What n samples and an output of `room` places are refused for.
@@ -60,6 +50,6 @@ pub fn silk_resampler_down2_3(words: [i32; 6], out: &mut [i16], input: &[i16]) -
     if let Some(refusal) = third_refusal(input.len(), out.len()) {
         return Answered::refused(refusal, words);
     }
-    let after = decimate(words, out, input, &rom::silk_Resampler_2_3_COEFS_LQ);
+    let after = decimate(words, out, input);
     Answered::done(2 * (input.len() / 3), after)
 }

@@ -66,6 +66,10 @@ pub up2-length : (w xs : List ℤ) → length (up2 w xs) ≡ 2 * length xs
 unfolding up2 up2_out
 up2-length = two-each up2_out (λ w x. refl)
 
+-- the same, sample by sample
+pub up2-counts : (w xs : List ℤ) → length (up2 w xs) ≡ length xs / 1 * 2
+up2-counts w xs = up2-length w xs ∙ omega arith
+
 -- ---- the down filters
 
 pub outer_sums-length : (order : ℕ) (buf : List ℤ) → length (outer_sums order buf) ≡ order / 2
@@ -94,6 +98,9 @@ iir_fir_next-length s xs h k =
 pub down2-length : (w xs : List ℤ) → length (down2 w xs) ≡ length xs / 2
 unfolding down2
 down2-length w xs = run_length down2_out down2_next w _ ∙ pairs-length xs
+
+pub down2-counts : (w xs : List ℤ) → length (down2 w xs) ≡ length xs / 2 * 1
+down2-counts w xs = down2-length w xs ∙ omega arith
 
 pub down2_end-length : (w xs : List ℤ) → length w ≡ 2 → length (down2_end w xs) ≡ 2
 unfolding down2_end down2_next halves_next

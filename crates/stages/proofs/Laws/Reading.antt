@@ -13,7 +13,7 @@ use Rattle.filters.specs.Reader.{read, outputs, Steady}
 use Rattle.filters.proofs.Laws.Lists.{tabulate-next, tabulate-none, tabulate-length, tabulate-map}
 use Rattle.stages.proofs.Laws.Loop.{Filling, fill_start, fill_one, fill_end}
 
-module _ {B : Type 0} (f : ℕ → List ℤ → B) (increment n : ℕ) (buf : List ℤ) (before : List B) where
+module _ {A B : Type 0} (f : ℕ → List A → B) (increment n : ℕ) (buf : List A) (before : List B) where
   abbrev sample : ℕ → B
   sample j = f (j * increment % 65536) (drop (j * increment / 65536) buf)
 
@@ -53,12 +53,12 @@ module _ {B : Type 0} (f : ℕ → List ℤ → B) (increment n : ℕ) (buf : Li
   read-end {j} h r = fill_end _ before (rw (tabulate-none n j sample h) at r.filling)
 
 -- what is read and then changed one by one is what is read changed
-pub read-map : (k : ℤ → ℤ) (g : ℕ → List ℤ → ℤ) (increment n : ℕ) (buf : List ℤ)
+pub read-map : {A : Type 0} (k : ℤ → ℤ) (g : ℕ → List A → ℤ) (increment n : ℕ) (buf : List A)
     → map k (read g increment n buf) ≡ read (λ fraction ys. k (g fraction ys)) increment n buf
 unfolding read
 read-map k g increment n buf = tabulate-map k 0 n (λ j. g (j * increment % 65536) (drop (j * increment / 65536) buf))
 
-pub read_length : {B : Type 0} (f : ℕ → List ℤ → B) (increment n : ℕ) (buf : List ℤ) → length (read f increment n buf) ≡ n
+pub read_length : {A B : Type 0} (f : ℕ → List A → B) (increment n : ℕ) (buf : List A) → length (read f increment n buf) ≡ n
 unfolding read
 read_length f increment n buf = tabulate-length 0 n _
 
