@@ -30,7 +30,7 @@ pub fn read<R: Reader, const MOST: usize>(
     out: &mut [i16],
 )
     requires begins_inside { (R.reach reader.now ≤ length buf.now) × (n * increment < 65536 * (length buf.now - R.reach reader.now) + increment) }
-    requires sizes { (1 < bits) × (bits < 32) × (increment < 16777216) × (length buf.now ≤ 516) × (n ≤ MOST) × (n ≤ length out.old) }
+    requires sizes { (1 < bits) × (bits < 32) × (increment < 16777216) × (length buf.now ≤ 516) × (n ≤ MOST) × (MOST ≤ 480) × (n ≤ length out.old) }
     ensures { out.new ≡ over (reading (λ fraction xs. narrowed bits (R.reading reader.now fraction xs)) increment n buf.now) out.old }
 {
     let mut raw = [0i32; MOST];

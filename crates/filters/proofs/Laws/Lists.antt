@@ -2,7 +2,7 @@
 use mathlib.Core.Path.{◌≡◌, refl, sym, ap, ◌∙◌}
 use mathlib.Core.Bool.{Bool, true, false, ◌&&◌}
 use mathlib.Core.List.{List, [], ◌∷◌, ◌++◌, map}
-use Prim.Native.Nat.{ℕ, zero, suc, ◌+◌, ◌*◌, ◌-◌, ◌/◌, ◌<◌, ◌≤◌}
+use Prim.Native.Nat.{ℕ, zero, suc, ◌+◌, ◌*◌, ◌-◌, ◌/◌, ◌<◌, ◌≤◌, ◌%◌}
 use native.Mathlib.Nat.{add-zero, mul-suc, not-suc-le-zero}
 use native.Mathlib.Numerals.{add-one}
 use native.Mathlib.Omega.{arith}
@@ -37,6 +37,28 @@ take-each (suc n) at xs h = rw (drop-next xs at (pos 0) (omega arith)) (ap (λ (
 -- a list of n, written out
 pub spelt : (n : ℕ) (xs : List ℤ) → length xs ≡ n → xs ≡ tabulate 0 n (λ j. xs ! j)
 spelt n xs h = sym (take_all n xs (omega arith)) ∙ take-each n 0 xs (omega arith)
+
+-- ---- what an iterator over pieces of two or three hands out
+
+module _ {left : List ℤ} (xs rest : List ℤ) {n : ℕ} (e : left ≡ xs ++ rest) (l : length xs ≡ n) where
+  pub pair-first : n ≡ 2 → pairs left ≡ (xs ! 0, xs ! 1) ∷ pairs rest
+  unfolding pairs tabulate
+  pair-first h = rw (e, spelt 2 xs (l ∙ h)) refl
+
+  pub three-first : n ≡ 3 → left ≡ xs ! 0 ∷ xs ! 1 ∷ xs ! 2 ∷ rest
+  unfolding tabulate
+  three-first h = e ∙ ap (λ (t : List ℤ). t ++ rest) (spelt 3 xs (l ∙ h))
+
+-- fewer are left
+pub pairs-short : (left : List ℤ) {n : ℕ} → length left < n → n ≡ 2 → pairs left ≡ []
+unfolding pairs
+pairs-short [] h e = refl
+pairs-short (x ∷ []) h e = refl
+pairs-short (x ∷ y ∷ xs) h e = absurd (omega arith)
+
+pub threes-none : (left : List ℤ) {n : ℕ} → length left < n → n ≡ 3 → length left % 3 ≡ 0 → left ≡ []
+threes-none [] h e w = refl
+threes-none (x ∷ xs) h e w = absurd (omega arith)
 
 -- ---- tables
 
@@ -79,14 +101,14 @@ tabulate-map k i (suc n) f = ap (λ t. k (f i) ∷ t) (tabulate-map k (i + 1) n 
 
 -- ---- padding
 
-drop-zeros : (n m : ℕ) → drop n (replicate m (pos 0)) ≡ replicate (m - n) (pos 0)
-drop-zeros zero m = let e : m - 0 ≡ m = omega arith in rw e refl
-drop-zeros (suc n) zero = let e : 0 - suc n ≡ 0 = omega arith in rw e refl
-drop-zeros (suc n) (suc m) = let e : suc m - suc n ≡ m - n = omega arith in drop-zeros n m ∙ rw e refl
+pub drop-same : {A : Type 0} (n m : ℕ) (x : A) → drop n (replicate m x) ≡ replicate (m - n) x
+drop-same zero m x = let e : m - 0 ≡ m = omega arith in rw e refl
+drop-same (suc n) zero x = let e : 0 - suc n ≡ 0 = omega arith in rw e refl
+drop-same (suc n) (suc m) x = let e : suc m - suc n ≡ m - n = omega arith in drop-same n m x ∙ rw e refl
 
 -- words that are put in front of m zeros
 pub over_zeros : (m : ℕ) (xs : List ℤ) → xs ++ drop (length xs) (replicate m (pos 0)) ≡ padded m xs
-over_zeros m xs = rw (drop-zeros (length xs) m) refl
+over_zeros m xs = rw (drop-same (length xs) m (pos 0)) refl
 
 pub padded-length : (m : ℕ) (xs : List ℤ) → length xs ≤ m → length (padded m xs) ≡ m
 padded-length m xs h = length-append xs _ ∙ ap (λ (k : ℕ). length xs + k) (length-replicate (m - length xs) (pos 0)) ∙ omega arith

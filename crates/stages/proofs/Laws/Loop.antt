@@ -13,6 +13,10 @@ use Rattle.filters.specs.Run.{run, end}
 use Rattle.stages.specs.Outcome.{over}
 use Rattle.filters.proofs.Laws.Run.{run_length}
 
+pub length-zero : {A : Type 0} (xs : List A) → length xs ≡ 0 → xs ≡ []
+length-zero [] h = refl
+length-zero (x ∷ xs) h = absurd (omega arith)
+
 -- ---- whatever it is filled with
 
 module _ {A : Type 0} (whole before : List A) where
@@ -86,6 +90,10 @@ over-length new old h = length-append new _ ∙ omega (arith, length-drop (lengt
 -- what was put in front stands there
 pub over-front : {A : Type 0} (new old : List A) (k : ℕ) {o : List A} → length new ≡ k → o ≡ over new old → take k o ≡ new
 over-front new old k l e = rw (e, ← l) (take-append_seam new (drop (length new) old))
+
+-- what fills an output to its end leaves nothing of it
+pub over-full : {A : Type 0} (new old : List A) → length old ≡ length new → over new old ≡ new
+over-full new old e = rw (drop_of_length-le old {i = length new} (omega arith)) (append-nil new)
 
 -- an output whose front is filled already
 pub fill-front : {A : Type 0} (ys rest before : List A) {o : List A} → length ys ≤ length before → o ≡ over ys before

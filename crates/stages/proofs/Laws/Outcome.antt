@@ -52,6 +52,14 @@ half-fits n half h = last (not (eqb (n % 2) 0)) (ltb most_samples n) half h
     last false false true e = refl
     last false false false e = absurd (omega arith)
 
+pub half-even : (n : ℕ) (half : Bool) → half_row n half ≡ 0 → n % 2 ≡ 0
+unfolding half_row
+half-even n half h = eqb-true (n % 2) 0 (last (eqb (n % 2) 0) h)
+  where
+    last : (a : Bool) → ◌≡◌ {A = ℕ} (if not a then 6 else if ltb most_samples n then 4 else if not half then 7 else 0) 0 → a ≡ true
+    last true e = refl
+    last false e = absurd (omega arith)
+
 -- where none applies to the 2/3 decimator, the samples are whole groups and their outputs have room
 pub third-fits : (n room : ℕ) → down23_row n room ≡ 0 → (n % 3 ≡ 0) × (2 * (n / 3) ≤ room)
 unfolding down23_row
@@ -64,7 +72,3 @@ third-fits n room h =
     last true true c e = absurd (omega arith)
     last true false true e = absurd (omega arith)
     last true false false e = (refl, refl)
-
--- what fills an output to its end leaves nothing of it
-pub over-full : {A : Type 0} (new old : List A) → length old ≡ length new → over new old ≡ new
-over-full new old e = rw (drop_of_length-le old {i = length new} (omega arith)) (append-nil new)

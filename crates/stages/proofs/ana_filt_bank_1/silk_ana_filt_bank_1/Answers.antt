@@ -14,7 +14,8 @@ use Rattle.filters.specs.Stage.AnaFiltBank1.{split_low, split_high}
 use Rattle.stages.specs.Entry.{half_row, split_outcome}
 use Rattle.filters.proofs.Laws.Lengths.{split_low-length, split_high-length}
 use Rattle.filters.proofs.Laws.Lists.{both_true}
-use Rattle.stages.proofs.Laws.Outcome.{ruled-refused, ruled-done, half-fits, over-full}
+use Rattle.stages.proofs.Laws.Outcome.{ruled-refused, ruled-done, half-fits}
+use Rattle.stages.proofs.Laws.Loop.{over-full}
 use Rattle.stages.proofs.ana_filt_bank_1.silk_ana_filt_bank_1.Goals as goal
 
 -- where no row applies both bands are half as long as the input
@@ -31,7 +32,7 @@ returns-in-Some c =
 pub bands-after-requires : goal.bands-after-requires
 bands-after-requires c =
     let h = halves (length c.args.input.now) c.args.low.now c.args.high.now c.in_default.ensures in
-    (omega (arith, c.well_formed), omega arith, omega arith)
+    (omega arith, omega arith)
 
 pub returns : goal.returns
 unfolding split_outcome
@@ -41,8 +42,8 @@ returns c =
     let low = c.args.low.now in
     let high = c.args.high.now in
     let (l, h) = halves (length xs) low high c.in_default.ensures in
-    let one = c.bands-after.ensures.staged in
-    let other = c.bands-after.ensures.staged_2 in
+    let one = c.bands-after.ensures.low in
+    let other = c.bands-after.ensures.high in
     let lent-low = one.filled ∙ over-full (split_low w xs) low (l ∙ sym (split_low-length w xs)) in
     let lent-high = other.filled ∙ over-full (split_high w xs) high (h ∙ sym (split_high-length w xs)) in
     ruled-done w (low, high) c.in_default.ensures c.done.ensures one.carried (λ i. (lent-low i, lent-high i))

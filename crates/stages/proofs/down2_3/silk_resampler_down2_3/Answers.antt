@@ -1,9 +1,7 @@
 -- `stages::down2_3::silk_resampler_down2_3` meets its contract: its row is the definition's, and where none applies the output's
 -- front is filled.
 -- Assumes nothing.
-use mathlib.Core.Path.{refl, sym}
-use native.Mathlib.Omega.{arith}
-use Rattle.filters.specs.Rom.{silk_Resampler_2_3_COEFS_LQ}
+use mathlib.Core.Path.{sym}
 use Rattle.stages.specs.Entry.{down23_outcome}
 use Rattle.stages.proofs.Laws.Outcome.{ruled-refused, ruled-done, third-fits}
 use Rattle.stages.proofs.down2_3.silk_resampler_down2_3.Goals as goal
@@ -13,10 +11,7 @@ unfolding down23_outcome
 returns-in-Some c = ruled-refused c.args.words c.args.out.now _ c.in-Some.refusal c.in-Some.ensures c.refused.ensures
 
 pub decimate-after-requires : goal.decimate-after-requires
-unfolding silk_Resampler_2_3_COEFS_LQ
-decimate-after-requires c =
-    let (whole, room) = third-fits _ _ (sym c.in_default.ensures) in
-    record { words_len = (omega (arith, c.well_formed), whole, refl); input_in_bounds = room }
+decimate-after-requires c = third-fits _ _ (sym c.in_default.ensures)
 
 pub returns : goal.returns
 unfolding down23_outcome
