@@ -1,7 +1,7 @@
 // Sums of products of taps and samples, each sum wrapped. Meaning: specs/Reader.antt.
 // The Rust writes out the 18, 12, 18 or 8 products of an output one below the other.
-ghost use Rattle.std.specs.Prelude.{◌≡◌, ℤ, Bool, true, reverse, ◌+◌, ◌*◌, ◌<◌, ◌≤◌, ◌/◌, pos, ◌+ℤ◌, ◌*ℤ◌, length};
-ghost use Rattle.filters.specs.Lists.{every};
+ghost use Rattle.std.specs.Prelude.{◌≡◌, ℤ, Bool, true, reverse, ◌+◌, ◌*◌, ◌<◌, ◌≤◌, ◌/◌, ◌%◌, pos, ◌+ℤ◌, ◌*ℤ◌, length, drop};
+ghost use Rattle.filters.specs.Lists.{◌!◌, every};
 ghost use Rattle.fixed.specs.Fixed.{wrapped, times};
 ghost use Rattle.filters.specs.Reader.{sum, small?};
 ghost use Rattle.filters.specs.Stage.DownFir.{outer_sums};
@@ -70,14 +70,33 @@ pub fn backward<T: Tap>(acc: i32, taps: &[T], ys: &[T::Sample]) -> i32
     all
 }
 
-// Half as many taps as samples, with the sums of outer samples.
+// The sum of the k-th sample and its counterpart from the end.
+fn outer(ys: &[i32], k: usize) -> i32
+    requires { k < length ys.now / 2 }
+    ensures { result ≡ outer_sums (length ys.now) ys.now ! k }
+{
+    fixed::add(ys[k], ys[ys.len() - 1 - k])
+}
+
+// Three taps from the k-th on: the products that are left behind them make of the result what all from the k-th on make of acc.
+fn three_inward(acc: i32, taps: &[i64], ys: &[i32], k: usize) -> i32
+    requires { (k + 3 ≤ length taps.now) × (length taps.now ≡ length ys.now / 2) × (every small? taps.now ≡ true) }
+    ensures { let outer = outer_sums (length ys.now) ys.now in
+        sum times result (drop (k + 3) taps.now) (drop (k + 3) outer) ≡ sum times acc (drop k taps.now) (drop k outer) }
+{
+    let a = taps[k].more(acc, outer(ys, k));
+    let b = taps[k + 1].more(a, outer(ys, k + 1));
+    taps[k + 2].more(b, outer(ys, k + 2))
+}
+
+// Half as many taps as samples, with the sums of outer samples. Three at a turn: one by one takes half as many instructions again.
 pub fn inward(taps: &[i64], ys: &[i32]) -> i32
-    requires { (length taps.now ≡ length ys.now / 2) × (every small? taps.now ≡ true) }
+    requires { (length taps.now % 3 ≡ 0) × (length taps.now ≡ length ys.now / 2) × (every small? taps.now ≡ true) }
     ensures { result ≡ sum times (pos 0) taps.now (outer_sums (length ys.now) ys.now) }
 {
     let mut all = 0;
-    for (k, c) in taps.iter().enumerate() {
-        all = c.more(all, fixed::add(ys[k], ys[ys.len() - 1 - k]));
+    for turn in 0..taps.len() / 3 {
+        all = three_inward(all, taps, ys, 3 * turn);
     }
     all
 }
