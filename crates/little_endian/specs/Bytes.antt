@@ -20,9 +20,17 @@ bits_of k (negsuc n) = 256 ^ k - 1 - n
 unfoldable pub word_of : ℕ → ℕ → ℤ
 word_of k n = if ltb n (256 ^ k / 2) then pos n else negsuc (256 ^ k - 1 - n)
 
--- words of k bytes, one behind the other; and the n words that stand from byte i of b on
-unfoldable pub laid : ℕ → List ℤ → List ℕ
-laid k ws = flat_map (λ w. bytes k (bits_of k w)) ws
+-- words of k bytes by a function to their bits, one behind the other; and the n words by a function of their bits that stand
+-- from byte i of b on
+unfoldable pub laid_by : {A : Type 0} → (A → ℕ) → ℕ → List A → List ℕ
+laid_by bits k ws = flat_map (λ w. bytes k (bits w)) ws
 
-unfoldable pub words_at : ℕ → ℕ → ℕ → List ℕ → List ℤ
-words_at k i n b = tabulate 0 n (λ j. word_of k (value (take k (drop (i + j * k) b))))
+unfoldable pub read_by : {A : Type 0} → (ℕ → A) → ℕ → ℕ → ℕ → List ℕ → List A
+read_by of_bits k i n b = tabulate 0 n (λ j. of_bits (value (take k (drop (i + j * k) b))))
+
+-- the same for signed words
+abbrev pub laid : ℕ → List ℤ → List ℕ
+laid k ws = laid_by (bits_of k) k ws
+
+abbrev pub words_at : ℕ → ℕ → ℕ → List ℕ → List ℤ
+words_at k i n b = read_by (word_of k) k i n b

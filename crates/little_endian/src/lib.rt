@@ -1,70 +1,89 @@
 // Words and samples as bytes, the low one first, both ways. Meaning: specs/Bytes.antt.
 #![tactic(auto)]
 
-ghost use Rattle.std.specs.Prelude.{◌+◌, ◌*◌, ◌^◌, ◌<◌, ◌≤◌, ◌≡◌, ◌++◌, length, take, drop};
+ghost use Rattle.std.specs.Prelude.{◌+◌, ◌*◌, ◌^◌, ◌<◌, ◌≤◌, ◌≡◌, ◌++◌, ℕ, length, take, drop};
+ghost use Rattle.std.proofs.Common.{rules};
 ghost use Rattle.little_endian.specs.Bytes as Bytes;
 
-// Puts the words one behind the other, from a place on.
-pub fn put_words(block: &mut [u8], at: usize, words: &[i32])
-    requires { at + 4 * length words.now ≤ length block.old }
-    ensures { let b = block.old in
-        let ws = words.now in
-        block.new ≡ take at b ++ Bytes.laid 4 ws ++ drop (at + 4 * length ws) b }
-{
-    let mut i = at;
-    let mut j = 0;
-    while j < words.len() {
-        let bits = word_bits(words[j]);
-        put(block, i, 4, bits);
-        i += 4;
-        j += 1;
-    }
+// A signed integer that stands in a block: how many bytes it has there, and the number that they are.
+pub trait Word: Copy {
+    const BYTES: usize;
+
+    ghost BYTES: { ℕ };
+
+    ghost bits: { Self → ℕ };
+
+    ghost of_bits: { ℕ → Self };
+
+    fn bits(self) -> u32
+        ensures { result ≡ bits self };
+
+    fn of_bits(n: u32) -> Self
+        requires { n < 256 ^ BYTES }
+        ensures { result ≡ of_bits n };
+
+    ghost few: { BYTES ≤ 4 };
 }
 
-// The same for samples.
-pub fn put_samples(block: &mut [u8], at: usize, samples: &[i16])
-    requires { at + 2 * length samples.now ≤ length block.old }
+impl Word for i32 {
+    const BYTES: usize = 4;
+
+    ghost BYTES = { 4 };
+
+    ghost bits = { Bytes.bits_of 4 };
+
+    ghost of_bits = { Bytes.word_of 4 };
+
+    fn bits(self) -> u32 {
+        self.cast_unsigned()
+    }
+
+    fn of_bits(n: u32) -> i32 {
+        n.cast_signed()
+    }
+
+    ghost few = { Prim.search rules };
+}
+
+impl Word for i16 {
+    const BYTES: usize = 2;
+
+    ghost BYTES = { 2 };
+
+    ghost bits = { Bytes.bits_of 2 };
+
+    ghost of_bits = { Bytes.word_of 2 };
+
+    fn bits(self) -> u32 {
+        u32::from(i16::cast_unsigned(self))
+    }
+
+    fn of_bits(n: u32) -> i16 {
+        (n as u16).cast_signed()
+    }
+
+    ghost few = { Prim.search rules };
+}
+
+// Puts the words one behind the other, from a place on.
+pub fn put_words<W: Word>(block: &mut [u8], at: usize, words: &[W])
+    requires { at + W.BYTES * length words.now ≤ length block.old }
     ensures { let b = block.old in
-        let ws = samples.now in
-        block.new ≡ take at b ++ Bytes.laid 2 ws ++ drop (at + 2 * length ws) b }
+        let ws = words.now in
+        block.new ≡ take at b ++ Bytes.laid_by W.bits W.BYTES ws ++ drop (at + W.BYTES * length ws) b }
 {
-    let mut i = at;
-    let mut j = 0;
-    while j < samples.len() {
-        let bits = sample_bits(samples[j]);
-        put(block, i, 2, bits);
-        i += 2;
-        j += 1;
+    for (j, word) in words.iter().enumerate() {
+        put(block, at + W::BYTES * j, W::BYTES, word.bits());
     }
 }
 
 // Reads as many words as there is room for, from a place on.
-pub fn words_at(block: &[u8], at: usize, out: &mut [i32])
-    requires { at + 4 * length out.old ≤ length block.now }
-    ensures { out.new ≡ Bytes.words_at 4 at (length out.old) block.now }
+pub fn words_at<W: Word>(block: &[u8], at: usize, out: &mut [W])
+    requires { at + W.BYTES * length out.old ≤ length block.now }
+    ensures { out.new ≡ Bytes.read_by W.of_bits W.BYTES at (length out.old) block.now }
 {
-    let mut i = at;
-    let mut j = 0;
-    while j < out.len() {
-        let x = word(number(block, i, 4));
-        out[j] = x;
-        i += 4;
-        j += 1;
-    }
-}
-
-// The same for samples.
-pub fn samples_at(block: &[u8], at: usize, out: &mut [i16])
-    requires { at + 2 * length out.old ≤ length block.now }
-    ensures { out.new ≡ Bytes.words_at 2 at (length out.old) block.now }
-{
-    let mut i = at;
-    let mut j = 0;
-    while j < out.len() {
-        let x = sample(number(block, i, 2));
-        out[j] = x;
-        i += 2;
-        j += 1;
+    for (j, word) in out.iter_mut().enumerate() {
+        *word = W::of_bits(number(block, at + W::BYTES * j, W::BYTES));
     }
 }
 
@@ -74,13 +93,10 @@ pub fn put(block: &mut [u8], at: usize, k: usize, bits: u32)
     ensures { let b = block.old in
         block.new ≡ take at b ++ Bytes.bytes k bits ++ drop (at + k) b }
 {
-    let end = at + k;
     let mut left = bits;
-    let mut i = at;
-    while i < end {
-        block[i] = (left % 256) as u8;
+    for byte in &mut block[at..at + k] {
+        *byte = (left % 256) as u8;
         left = left / 256;
-        i += 1;
     }
 }
 
@@ -90,57 +106,8 @@ pub fn number(block: &[u8], at: usize, k: usize) -> u32
     ensures { (result ≡ Bytes.value (take k (drop at block.now))) × (result < 256 ^ k) }
 {
     let mut n: u32 = 0;
-    let mut i = k;
-    while 0 < i {
-        i -= 1;
-        n = 256 * n + (block[at + i] as u32);
+    for i in (0..k).rev() {
+        n = 256 * n + u32::from(block[at + i]);
     }
     n
-}
-
-// The bits of a word as a number, and the word of such a number.
-fn word_bits(x: i32) -> u32
-    ensures { result ≡ Bytes.bits_of 4 x }
-{
-    if x < 0 {
-        let y = !x;
-        4294967295 - (y as u32)
-    } else {
-        x as u32
-    }
-}
-
-fn word(bits: u32) -> i32
-    ensures { result ≡ Bytes.word_of 4 bits }
-{
-    if bits < 2147483648 {
-        bits as i32
-    } else {
-        let y = (4294967295 - bits) as i32;
-        !y
-    }
-}
-
-// The same for a sample.
-fn sample_bits(x: i16) -> u32
-    ensures { result ≡ Bytes.bits_of 2 x }
-{
-    if x < 0 {
-        let y = !x;
-        65535 - (y as u32)
-    } else {
-        x as u32
-    }
-}
-
-fn sample(bits: u32) -> i16
-    requires { bits < 65536 }
-    ensures { result ≡ Bytes.word_of 2 bits }
-{
-    if bits < 32768 {
-        bits as i16
-    } else {
-        let y = (65535 - bits) as i16;
-        !y
-    }
 }

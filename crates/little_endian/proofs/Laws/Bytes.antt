@@ -1,63 +1,37 @@
 -- Bytes, the low one first, and the words of k of them: their bits are the machine's at the width that has as many.
 -- Assumes nothing.
 use Rattle.std.specs.Prelude.{if◌then◌else◌}
-use mathlib.Core.Path.{◌≡◌, refl, sym, ap, ◌∙◌}
+use mathlib.Core.Path.{◌≡◌, refl, ap, ◌∙◌}
 use mathlib.Core.Bool.{Bool, true, false}
 use mathlib.Core.List.{List, [], ◌∷◌, ◌++◌, flat_map}
 use Prim.Native.Nat.{ℕ, zero, suc, ◌+◌, ◌*◌, ◌-◌, ◌/◌, ◌%◌, ◌^◌, ◌<◌, ◌≤◌}
-use native.Mathlib.Nat.{not-suc-le-zero, mul-suc, pow-suc}
+use native.Mathlib.Nat.{mul-suc, pow-suc}
 use native.Mathlib.Omega.{arith}
-use borrow.Author.Tests.{ltb-true}
 use lib.Dec.{ltb}
 use lib.IntN.{ℤ, pos, negsuc}
 use lib.ListN.{length, take, drop, get_or, length-append}
-use lib.Signed.{lt_z}
 use mir.Syntax.{Width}
-use mir.Val.{SFits, to_z, of_z, bits, hbits, sel}
-use mir.ValLaws.{to_z_pos, to_z-neg}
+use mir.Val.{to_z, of_z, bits, hbits, sel}
 use Rattle.filters.proofs.Laws.Lists.{drop-next, drop-none}
-use Rattle.little_endian.specs.Bytes.{bytes, value, bits_of, word_of, laid}
+use Rattle.little_endian.specs.Bytes.{bytes, value, bits_of, word_of, laid_by}
 
 -- ---- a word and its bits
 
 module _ (k : ℕ) (w : Width) (full : 256 ^ k ≡ 2 ^ bits w) (half : 256 ^ k / 2 ≡ 2 ^ hbits w) where
-  pub word-is : (n : ℕ) → n < 2 ^ bits w → to_z w n ≡ word_of k n
+  pub word-is : (n : ℕ) → to_z w n ≡ word_of k n
   unfolding word_of
-  word-is n h =
-      let e : 2 ^ bits w - 1 - n ≡ 2 ^ bits w - suc n = omega arith in
-      rw (half, full, e) (same (ltb n (2 ^ hbits w)) _ _)
+  word-is n =
+      let e : 256 ^ k - 1 - n ≡ 256 ^ k - suc n = omega arith in
+      rw (e, half, full) (same (ltb n (2 ^ hbits w)) _ _)
     where
       same : (b : Bool) (x y : ℤ) → sel b x y ≡ if b then x else y
       same true x y = refl
       same false x y = refl
 
-  -- the complement of the complement
-  pub word-high : (n : ℕ) → n < 2 ^ bits w → to_z w (2 ^ bits w - 1 - (2 ^ bits w - 1 - n)) ≡ word_of k n
-  word-high n h = let e : 2 ^ bits w - 1 - (2 ^ bits w - 1 - n) ≡ n = omega arith in rw e (word-is n h)
-
-  pub bits_fit : (x : ℤ) → SFits w x → bits_of k x < 2 ^ bits w
+  pub bits-are : (x : ℤ) → of_z w x ≡ bits_of k x
   unfolding bits_of
-  bits_fit (pos n) f = omega (arith, f.sfits, full, half)
-  bits_fit (negsuc n) f = omega (arith, f.sfits, full, half)
-
-  -- below zero the complement is what the bits lack
-  pub bits-low : (x : ℤ) → SFits w x → lt_z (to_z w (of_z w x)) (pos 0) ≡ true
-      → to_z w (2 ^ bits w - 1 - of_z w x) ≡ pos (2 ^ bits w - 1 - bits_of k x)
-  unfolding bits_of
-  bits-low (pos n) f h = absurd (not-suc-le-zero (ltb-true n 0 (rw (to_z_pos w n f.sfits) at h)))
-  bits-low (negsuc n) f h =
-      let e : 2 ^ bits w - 1 - (2 ^ bits w - suc n) ≡ n = omega (arith, f.sfits, full, half) in
-      let d : 2 ^ bits w - 1 - (256 ^ k - 1 - n) ≡ n = omega (arith, f.sfits, full, half) in
-      rw (e, d) (to_z_pos w n f.sfits)
-
-  -- from zero up the word is its bits
-  pub bits-high : (x : ℤ) → SFits w x → lt_z (to_z w (of_z w x)) (pos 0) ≡ false → to_z w (of_z w x) ≡ pos (bits_of k x)
-  unfolding bits_of
-  bits-high (pos n) f h = to_z_pos w n f.sfits
-  bits-high (negsuc n) f h =
-      let z : true ≡ false = ap (λ (q : ℤ). lt_z q (pos 0)) (sym (to_z-neg w n f.sfits)) ∙ h in
-      let o : ◌≡◌ {A = ℕ} 0 1 = cc in
-      absurd (omega arith)
+  bits-are (pos n) = refl
+  bits-are (negsuc n) = let e : 256 ^ k - 1 - n ≡ 256 ^ k - suc n = omega arith in rw (e, full) refl
 
 -- ---- bytes
 
@@ -66,7 +40,7 @@ unfolding bytes
 bytes-length zero n = refl
 bytes-length (suc k) n = ap suc (bytes-length k (n / 256))
 
--- one byte, and the others: the turn i of a loop to e
+-- one byte, and the others: the turn i of e
 pub bytes_next : (e i n : ℕ) → i < e → bytes (e - i) n ≡ n % 256 ∷ bytes (e - (i + 1)) (n / 256)
 unfolding bytes
 bytes_next e i n h = let d : e - i ≡ suc (e - (i + 1)) = omega arith in rw d refl
@@ -124,18 +98,19 @@ module _ (b : List ℕ) (at k : ℕ) where
 
 -- ---- words, one behind the other
 
-pub laid-length : (k : ℕ) (ws : List ℤ) → length (laid k ws) ≡ k * length ws
-unfolding laid flat_map
-laid-length k [] = omega arith
-laid-length k (w ∷ ws) =
-    length-append (bytes k (bits_of k w)) (laid k ws)
-    ∙ omega (arith, bytes-length k (bits_of k w), laid-length k ws, mul-suc k (length ws))
+module _ {A : Type 0} (bits : A → ℕ) (k : ℕ) where
+  pub laid-length : (ws : List A) → length (laid_by bits k ws) ≡ k * length ws
+  unfolding laid_by flat_map
+  laid-length [] = omega arith
+  laid-length (w ∷ ws) =
+      length-append (bytes k (bits w)) (laid_by bits k ws)
+      ∙ omega (arith, bytes-length k (bits w), laid-length ws, mul-suc k (length ws))
 
-pub laid_next : (k : ℕ) (ws : List ℤ) (j : ℕ) → j < length ws
-    → laid k (drop j ws) ≡ bytes k (bits_of k (get_or ws j (pos 0))) ++ laid k (drop (j + 1) ws)
-unfolding laid flat_map
-laid_next k ws j h = rw (drop-next ws j (pos 0) h) refl
+  pub laid_next : (ws : List A) (j : ℕ) (d : A) → j < length ws
+      → laid_by bits k (drop j ws) ≡ bytes k (bits (get_or ws j d)) ++ laid_by bits k (drop (j + 1) ws)
+  unfolding laid_by flat_map
+  laid_next ws j d h = rw (drop-next ws j d h) refl
 
-pub laid_none : (k : ℕ) (ws : List ℤ) (j : ℕ) → length ws ≤ j → laid k (drop j ws) ≡ []
-unfolding laid flat_map
-laid_none k ws j h = rw (drop-none ws j h) refl
+  pub laid_none : (ws : List A) (j : ℕ) → length ws ≤ j → laid_by bits k (drop j ws) ≡ []
+  unfolding laid_by flat_map
+  laid_none ws j h = rw (drop-none ws j h) refl

@@ -1,9 +1,10 @@
 -- Loops that fill a lent block from a place on: what stands before the place counts as filled. Assumes nothing.
 use mathlib.Core.Path.{◌≡◌, refl, sym, ap, ◌∙◌}
-use mathlib.Core.List.{List, [], ◌++◌, append_assoc}
-use Prim.Native.Nat.{ℕ, ◌+◌, ◌≤◌}
+use mathlib.Core.List.{List, [], ◌++◌, append-nil, append_assoc}
+use Prim.Native.Nat.{ℕ, ◌+◌, ◌-◌, ◌≤◌}
 use native.Mathlib.Omega.{arith}
-use lib.ListN.{length, take, drop, length-append, length-drop}
+use borrow.Rule.Slice.PartMut.{put_mid}
+use lib.ListN.{length, take, drop, length-append, length-drop, drop_of_length-le}
 use lib.Seq.{length-take-le, take_at, drop_at, drop-drop}
 use Rattle.stages.proofs.Laws.Loop.{Filling, fill_end}
 
@@ -41,3 +42,13 @@ module _ {A : Type 0} where
             ∙ ap (λ (t : List A). t ++ rest) (take_at (take k o ++ ys) (drop (k + n) o) (k + n) front)
             ∙ append_assoc (take k o) ys rest ∙ f.filled;
       }
+
+  -- a lent part that is filled whole
+  pub part-filled : (at k : ℕ) (new old : List A) {i : ℕ} {o : List A} → at + k ≤ length old → length new ≡ k
+      → Filling new (take (at + k - at) (drop at old)) i o [] → put_mid at (at + k - at) old o ≡ placed at new k old
+  part-filled at k new old {i} {o} h l f =
+      let e : at + k - at ≡ k = omega arith in
+      let d = length-take-le k (drop at old) (omega (arith, length-drop at old)) in
+      let none : drop (length new) (take k (drop at old)) ≡ [] = drop_of_length-le (take k (drop at old)) {i = length new} (omega arith) in
+      let is : o ≡ new = rw e at (fill_end _ _ f) ∙ rw none (append-nil new) in
+      rw (e, is, drop-drop k at old) (sym (append_assoc (take at old) new (drop (at + k) old)))

@@ -9,24 +9,17 @@ pub loop-i-init : goal.loop-i-init
 loop-i-init c = read-start _ _ _ c.requires.0 c.requires.1
 
 pub overflow_mul-n : goal.overflow_mul-n
-overflow_mul-n c = omega (arith, read-room _ _ _ c.loop-i-test.true c.before.loop-i.invariant)
+overflow_mul-n c = record { fits = omega (arith, read-room _ _ _ c.loop-i-test.true c.loop-i.invariant) }
 
-pub overflow_cast-n : goal.overflow_cast-n
-overflow_cast-n c =
-    let s = c.before.before in
-    omega (arith, c.shared_slice_known-1.given (s.before.args.at + (s.loop-i.i - 1)))
-
-pub overflow_add-n-in-loop-i : goal.overflow_add-n-in-loop-i
-overflow_add-n-in-loop-i c =
-    let s = c.before.before in
-    let x = c.shared_slice_known-1.given (s.before.args.at + (s.loop-i.i - 1)) in
-    omega (arith, read-room _ _ _ c.before.loop-i-test.true s.loop-i.invariant)
+pub overflow_add-n : goal.overflow_add-n
+overflow_add-n c =
+    let x = c.type_inv.block (c.args.at + (c.loop-i.i - 1)) in
+    record { fits = omega (arith, read-room _ _ _ c.loop-i-test.true c.loop-i.invariant) }
 
 pub loop-i-preserved : goal.loop-i-preserved
 loop-i-preserved c =
-    let s = c.before.before in
-    let x = c.shared_slice_known-1.given (s.before.args.at + (s.loop-i.i - 1)) in
-    read-turn _ _ _ c.before.loop-i-test.true s.loop-i.invariant x.fits
+    let x = c.type_inv.block (c.args.at + (c.loop-i.i - 1)) in
+    rw c.from.ensures (read-turn _ _ _ c.loop-i-test.true c.loop-i.invariant x.fits)
 
 pub returns : goal.returns
-returns c = read-end _ _ _ c.loop-i-test.false c.before.loop-i.invariant
+returns c = read-end _ _ _ c.loop-i-test.false c.loop-i.invariant

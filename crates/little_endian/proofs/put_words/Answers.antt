@@ -1,40 +1,17 @@
 -- `little_endian::put_words` meets its contract: at each turn what is put and what is left are the whole.
 -- Assumes nothing.
 use mathlib.Core.Path.{ap, ◌∙◌}
-use native.Mathlib.Omega.{arith}
-use mir.Syntax.{w32}
-use Rattle.fixed.proofs.Laws.Fit.{back}
-use Rattle.filters.specs.Lists.{◌!◌}
-use Rattle.little_endian.specs.Bytes.{bits_of}
-use Rattle.little_endian.proofs.Laws.Laying.{lay-start, lay-room, lay-turn, lay-end}
+use Rattle.little_endian.proofs.Laws.Laying.{lay-start, lay-turn, lay-end}
 use Rattle.little_endian.proofs.put_words.Goals as goal
 
 pub loop-j-init : goal.loop-j-init
-loop-j-init c = lay-start _ _ _ _ c.before.requires
-
-pub put-requires : goal.put-requires
-put-requires c =
-    let t = c.before.before.before in
-    lay-room _ _ _ _ t.loop-j-test.true t.before.loop-j.invariant
-
-pub overflow_add-i : goal.overflow_add-i
-overflow_add-i c =
-    let t = c.before.before.before.before.before.before in
-    omega (arith, lay-room _ _ _ _ t.loop-j-test.true t.before.loop-j.invariant)
+loop-j-init g c = lay-start _ _ _ _ _ c.requires
 
 pub loop-j-preserved : goal.loop-j-preserved
-loop-j-preserved c =
-    let p = c.before.before in
-    let made = p.before.before in
-    let read = made.before in
-    let l = read.before.before in
-    let words = l.before.before.args.words.now in
-    let x = back w32 (words ! l.loop-j.j) read.word_bits-arg-1.given in
-    let bits = made.word_bits-bits.ensures ∙ ap (bits_of 4) x in
-    lay-turn _ _ words _ read.before.loop-j-test.true l.loop-j.invariant bits p.put.ensures
-
-pub shape_of-block : goal.shape_of-block
-shape_of-block c = c.before.loop-j.invariant.filling.len
+loop-j-preserved g c =
+    let bits = c.bits.ensures ∙ ap g.W.Word.bits c.index-words-j.is in
+    let put = rw (c.BYTES.ensures, c.BYTES-in-loop-j.ensures) at c.put.ensures in
+    lay-turn _ _ _ _ _ c.index-words-j.result c.loop-j-test.true c.loop-j.invariant bits put
 
 pub returns : goal.returns
-returns c = lay-end _ _ _ _ c.loop-j-test.false c.before.loop-j.invariant
+returns g c = lay-end _ _ _ _ _ c.loop-j-test.false c.loop-j.invariant
