@@ -48,7 +48,7 @@ unfolding
     Pairs.rate_id Pairs.delay_matrix_enc Pairs.delay_matrix_dec Pairs.delay
     Pairs.filter Pairs.path Pairs.up2x Pairs.raised Pairs.increment
     Record.living Record.live Record.live_delay Record.keeping Record.record_of Record.cleaned Record.fresh
-    Bytes.bytes Bytes.value Bytes.bits_of Bytes.laid Block.weighed Block.check Block.body Block.block_of
+    Bytes.bytes Bytes.value Bytes.bits_of Bytes.laid_by Block.weighed Block.check Block.body Block.block_of
     mathlib.Core.List.flat_map
 cases_hold = refl
 

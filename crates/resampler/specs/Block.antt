@@ -3,8 +3,7 @@ use Rattle.std.specs.Prelude.{if◌then◌else◌, ℕ, ◌+◌, ◌*◌, Bool, 
 use mathlib.Core.List.{List, [], ◌∷◌, ◌++◌}
 use Rattle.little_endian.specs.Bytes.{bytes, value, laid, words_at}
 use Rattle.filters.specs.Lists.{every}
-use Rattle.stages.specs.declared.answer.Answer.TheVariants.{Done}
-use Rattle.stages.specs.Outcome.{Outcome, outcome, ruled}
+use Rattle.stages.specs.Outcome.{Done, Outcome, outcome, ruled}
 use Rattle.resampler.specs.declared.Record.{Record}
 use Rattle.resampler.specs.Pairs.{supported}
 use Rattle.resampler.specs.Record.{pair_of, dead, cleaned, blank}

@@ -1,8 +1,7 @@
 -- What is claimed of the definitions, a sentence and a statement each. The proofs stand in proofs/Claims.antt.
 use Rattle.std.specs.Prelude.{◌≡◌, Bool, true, List, map, ℕ, ◌*◌, ◌/◌, ◌^◌, ltb, leb, ℤ, pos, negsuc, length}
 use Rattle.filters.specs.Lists.{every}
-use Rattle.stages.specs.declared.answer.Answer.TheVariants.{Done}
-use Rattle.stages.specs.Outcome.{outcome}
+use Rattle.stages.specs.Outcome.{Done, outcome}
 use Rattle.stages.specs.Claims.{Fixed}
 use Rattle.resampler.specs.Pairs.{Pair, supported, thirty, path, up2x, increment}
 use Rattle.resampler.specs.declared.Record.{Record}

@@ -1,8 +1,7 @@
 -- The outcomes of opening and of resampling; those of parking and resuming stand with the block.
 -- A row is the number of the first refusal that applies, in the order in which they are tested, or 0. Assumes nothing.
 use Rattle.std.specs.Prelude.{if◌then◌else◌, ℕ, ◌*◌, ◌/◌, ◌%◌, not, ◌||◌, List, ltb, eqb, ℤ, pos, negsuc, length}
-use Rattle.stages.specs.declared.answer.Answer.TheVariants.{Done}
-use Rattle.stages.specs.Outcome.{Outcome, outcome, ruled, over}
+use Rattle.stages.specs.Outcome.{Done, Outcome, outcome, ruled, over}
 use Rattle.resampler.specs.declared.Record.{Record}
 use Rattle.resampler.specs.Pairs.{Pair, pair, supported}
 use Rattle.resampler.specs.Record.{pair_of, fresh, blank}

@@ -8,10 +8,8 @@ pub fn check(block: &[u8]) -> u32
     ensures { result ≡ Block.check block.now }
 {
     let mut sum: usize = 0;
-    let mut i = 0;
-    while i < 508 {
-        sum += (i + 1) * (block[i] as usize);
-        i += 1;
+    for (i, byte) in block[..508].iter().enumerate() {
+        sum += (i + 1) * usize::from(*byte);
     }
     sum as u32
 }

@@ -5,16 +5,17 @@
 pub mod block;
 mod entries;
 mod init;
+mod known;
 pub mod pairs;
 mod parking;
 mod passes;
 mod resample;
 mod resuming;
 
-pub use init::{Opened, silk_resampler_init};
-pub use parking::{Parked, park};
-pub use resample::{Resampled, silk_resampler};
-pub use resuming::{Resumed, resume};
+pub use init::silk_resampler_init;
+pub use parking::park;
+pub use resample::silk_resampler;
+pub use resuming::resume;
 
 // A line's whole state, by value: its pair, and every word and sample that any path can carry.
 // Which of them a pair uses is said in specs/Record.antt; the others are zero.

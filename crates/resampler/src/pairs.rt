@@ -49,13 +49,11 @@ pub fn supported(direction: usize, inKhz: usize, outKhz: usize) -> bool
 {
     let i = rate_id(inKhz);
     let o = rate_id(outKhz);
-    if direction == 1 {
-        return (i < 5) & (o < 3);
+    match direction {
+        1 => (i < 5) & (o < 3),
+        0 => (i < 3) & (o < 5),
+        _ => false,
     }
-    if direction == 0 {
-        return (i < 3) & (o < 5);
-    }
-    false
 }
 
 // How many samples of the input a pair carries over.

@@ -1,7 +1,7 @@
 // Both passes of a call over whole milliseconds, on each path. From silk_resampler of silk/resampler/mod.rs. Meaning:
 // specs/Resample.antt. The path is picked once, its stage runs twice on the words alone, and the record is made once, with the
 // path's words moved on, all others zero, and the tail as its delay samples.
-ghost use Rattle.std.specs.Prelude.{◌≡◌, true, ◌*◌, ◌<◌, ◌≤◌, length};
+ghost use Rattle.std.specs.Prelude.{◌≡◌, ◌*◌, ◌<◌, ◌≤◌, length};
 ghost use Rattle.filters.specs.Lists.{padded};
 ghost use Rattle.filters.specs.Reader.{Steady};
 ghost use Rattle.filters.specs.Stage.DownFir.{Fitting, filter_of, down_3_4, down_2_3, down_1_2, down_1_3, down_1_4, down_1_6};
@@ -10,6 +10,7 @@ ghost use Rattle.resampler.specs.Pairs as Pairs;
 ghost use Rattle.resampler.specs.Record.{pair_of};
 ghost use Rattle.resampler.specs.Resample.{rates_of, filter_at, both_out, both_after, Taking, Lowered};
 
+use crate::known::Known;
 use crate::{Record, pairs};
 use stages::{DownWords, IirFirWords, Rates, rom};
 
@@ -280,12 +281,11 @@ fn down_passes(
 }
 
 // The path of a pair, by its two rates.
-pub fn both(s: Record, out: &mut [i16], first: &[i16], rest: &[i16], tail: &[i16]) -> Record
-    requires s_value { Pairs.supported (pair_of s) ≡ true }
-    requires doubler_len { (length s.doubler ≡ 6) × (length s.samples ≡ 8) × (length s.ar2 ≡ 2) × (length s.fir ≡ 36) }
-    requires taking { Taking (rates_of (pair_of s)) first.now rest.now out.old × (length tail.now ≤ 48) }
-    ensures { Staged (both_out s first.now rest.now) (both_after s first.now rest.now tail.now) out.old out.new result }
+pub fn both(known: Known, out: &mut [i16], first: &[i16], rest: &[i16], tail: &[i16]) -> Record
+    requires { Taking (rates_of (pair_of known.state)) first.now rest.now out.old × (length tail.now ≤ 48) }
+    ensures { Staged (both_out known.state first.now rest.now) (both_after known.state first.now rest.now tail.now) out.old out.new result }
 {
+    let s = known.state;
     let inKhz = s.inKhz as usize;
     let outKhz = s.outKhz as usize;
     if outKhz == inKhz {

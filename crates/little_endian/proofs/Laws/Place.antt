@@ -43,6 +43,10 @@ module _ {A : Type 0} where
             ∙ append_assoc (take k o) ys rest ∙ f.filled;
       }
 
+  -- a lent part that is written whole
+  pub part-placed : (at k : ℕ) (new old : List A) → put_mid at k old new ≡ placed at new k old
+  part-placed at k new old = rw (drop-drop k at old) (sym (append_assoc (take at old) new (drop (at + k) old)))
+
   -- a lent part that is filled whole
   pub part-filled : (at k : ℕ) (new old : List A) {i : ℕ} {o : List A} → at + k ≤ length old → length new ≡ k
       → Filling new (take (at + k - at) (drop at old)) i o [] → put_mid at (at + k - at) old o ≡ placed at new k old
@@ -51,4 +55,4 @@ module _ {A : Type 0} where
       let d = length-take-le k (drop at old) (omega (arith, length-drop at old)) in
       let none : drop (length new) (take k (drop at old)) ≡ [] = drop_of_length-le (take k (drop at old)) {i = length new} (omega arith) in
       let is : o ≡ new = rw e at (fill_end _ _ f) ∙ rw none (append-nil new) in
-      rw (e, is, drop-drop k at old) (sym (append_assoc (take at old) new (drop (at + k) old)))
+      rw (e, is) (part-placed at k new old)

@@ -13,7 +13,7 @@ use lib.ListN.{length, take, drop, length-drop, take-append-drop}
 use lib.Seq.{length-take-le, take_at, drop_at, drop-drop, take-add}
 use Rattle.filters.specs.Lists.{tabulate, every}
 use Rattle.filters.proofs.Laws.Lists.{both_true}
-use Rattle.little_endian.specs.Bytes.{bytes, value, bits_of, word_of, laid, words_at}
+use Rattle.little_endian.specs.Bytes.{bytes, value, bits_of, word_of, laid, words_at, laid_by, read_by}
 use Rattle.resampler.specs.Claims.{byte?, word?}
 use Rattle.little_endian.proofs.Laws.Bytes.{bytes-length}
 use Rattle.resampler.proofs.Laws.Scan.{every-both}
@@ -67,7 +67,7 @@ bytes-are zero n = refl
 bytes-are (suc k) n = rw (lt-ltb (n % 256) 256 (omega arith), bytes-are k (n / 256)) refl
 
 pub laid-are : (k : ℕ) (ws : List ℤ) → every byte? (laid k ws) ≡ true
-unfolding laid flat_map
+unfolding laid_by flat_map
 laid-are k [] = refl
 laid-are k (w ∷ ws) = every-join byte? (bytes k (bits_of k w)) (laid k ws) (bytes-are k (bits_of k w)) (laid-are k ws)
 
@@ -90,12 +90,12 @@ tabulate-same {A} a b (suc n) f g h =
 
 module _ (k : ℕ) where
   words-none : (i : ℕ) (b : List ℕ) → words_at k i 0 b ≡ []
-  unfolding words_at tabulate
+  unfolding read_by tabulate
   words-none i b = refl
 
   -- a word, and those behind it
   words-next : (i n : ℕ) (b : List ℕ) → words_at k i (suc n) b ≡ word_of k (value (take k (drop i b))) ∷ words_at k (i + k) n b
-  unfolding words_at tabulate
+  unfolding read_by tabulate
   words-next i n b =
       let word : ℕ → ℤ = λ m. word_of k (value (take k (drop m b))) in
       let e : i + 0 * k ≡ i = omega arith in
@@ -132,7 +132,7 @@ module _ (k : ℕ) (even : 256 ^ k ≡ 2 * (256 ^ k / 2)) where
   -- laid, and read back
   pub words-laid : (ws : List ℤ) (i : ℕ) (b rest : List ℕ) → every (word? k) ws ≡ true → drop i b ≡ laid k ws ++ rest
       → words_at k i (length ws) b ≡ ws
-  unfolding laid flat_map
+  unfolding laid_by flat_map
   words-laid [] i b rest h e = words-none k i b
   words-laid (w ∷ ws) i b rest h e =
       let (one, more) = both_true (word? k w) _ h in
@@ -144,7 +144,7 @@ module _ (k : ℕ) (even : 256 ^ k ≡ 2 * (256 ^ k / 2)) where
 
   -- read, and laid again
   pub laid-words : (n i : ℕ) (b : List ℕ) → every byte? b ≡ true → i + k * n ≤ length b → laid k (words_at k i n b) ≡ take (k * n) (drop i b)
-  unfolding laid flat_map
+  unfolding laid_by flat_map
   laid-words zero i b h l = let e : k * 0 ≡ 0 = omega arith in rw (e, words-none k i b) refl
   laid-words (suc n) i b h l =
       let m = mul-suc k n in

@@ -1,28 +1,20 @@
 -- A record's bytes, part by part: each is put where the last one ended. Assumes nothing.
 use mathlib.Core.Path.{◌≡◌, refl, sym, ap, subst, ◌∙◌}
 use mathlib.Core.List.{List, [], ◌∷◌, ◌++◌, append-nil, append_assoc}
-use Prim.Native.Nat.{ℕ, zero, suc, ◌+◌, ◌*◌, ◌≤◌}
+use Prim.Native.Nat.{ℕ, ◌+◌, ◌*◌, ◌≤◌}
 use native.Mathlib.Omega.{arith}
 use lib.IntN.{ℤ}
-use lib.ListN.{length, take, drop, set, replicate, length-append, length-drop}
+use lib.ListN.{length, take, drop, replicate, length-append, length-drop}
 use lib.Seq.{take_at, take_all}
 use Rattle.filters.proofs.Laws.Lists.{drop-none}
-use Rattle.stages.proofs.Laws.Loop.{Filling, fill_start, fill-two, fill_end, fill-count}
+use Rattle.stages.proofs.Laws.Loop.{Filling, fill_start, fill_end, fill-count}
 use Rattle.resampler.specs.declared.Record.{Record}
 use Rattle.resampler.specs.Record.{cleaned}
-use Rattle.little_endian.specs.Bytes.{bytes, laid}
+use Rattle.little_endian.specs.Bytes.{bytes, bits_of, laid}
 use Rattle.resampler.specs.Block.{layout, body, weighed, check, block_of}
 use Rattle.little_endian.proofs.Laws.Bytes.{laid-length}
 use Rattle.resampler.proofs.Laws.Entries.{Whole}
 use Rattle.little_endian.proofs.Laws.Place.{placed, place-part}
-
--- four stores in front
-pub put_four : (a b c d : ℕ) (old : List ℕ) → 4 ≤ length old
-    → set (set (set (set old 0 a) 1 b) 2 c) 3 d ≡ (a ∷ b ∷ c ∷ d ∷ []) ++ drop 4 old
-put_four a b c d old h =
-    let whole = a ∷ b ∷ c ∷ d ∷ [] in
-    let two = fill-two whole old (fill_start whole old) (omega arith) in
-    fill_end whole old (fill-two whole old two (omega (arith, two.len)))
 
 -- six parts, from the right
 pub six-right : (a b c d e f : List ℕ) → a ++ b ++ c ++ d ++ e ++ f ≡ a ++ (b ++ (c ++ (d ++ (e ++ f))))
@@ -30,19 +22,13 @@ six-right a b c d e f =
     append_assoc (a ++ b ++ c ++ d) e f ∙ append_assoc (a ++ b ++ c) d (e ++ f)
     ∙ append_assoc (a ++ b) c (d ++ (e ++ f)) ∙ append_assoc a b (c ++ (d ++ (e ++ f)))
 
--- a zero's bytes are zeros
-pub bytes-zero : (k : ℕ) → bytes k 0 ≡ replicate k 0
-unfolding bytes
-bytes-zero zero = refl
-bytes-zero (suc k) = ap (λ (t : List ℕ). 0 ∷ t) (bytes-zero k)
-
 module _ (s : Record) (old : List ℕ) (room : length old ≡ 512) (w : Whole s) where
   -- the words of an array
   put-words : (k m n at : ℕ) (ws : List ℤ) (rest : List ℕ) {o z : List ℕ} → length ws ≡ m → k * m ≡ n
       → Filling (body s) old at o (laid k ws ++ rest) → at + n ≤ 512 → z ≡ placed at (laid k ws) (k * length ws) o → Filling (body s) old (at + n) z rest
   put-words k m n at ws rest l e f h p =
       let q : k * length ws ≡ n = ap (λ (j : ℕ). k * j) l ∙ e in
-      place-part (laid k ws) n (laid-length k ws ∙ q) f (omega (arith, f.len)) (rw q at p)
+      place-part (laid k ws) n (laid-length (bits_of k) k ws ∙ q) f (omega (arith, f.len)) (rw q at p)
 
   -- what comes behind each part
   abbrev pads : List ℕ
@@ -75,7 +61,7 @@ module _ (s : Record) (old : List ℕ) (room : length old ≡ 512) (w : Whole s)
       → b4 ≡ placed 44 (laid 4 s.ar2) (4 * length s.ar2) b3
       → b5 ≡ placed 52 (laid 4 s.fir) (4 * length s.fir) b4
       → b6 ≡ placed 196 (laid 2 s.delay) (2 * length s.delay) b5
-      → b7 ≡ placed 292 (bytes 216 0) 216 b6
+      → b7 ≡ placed 292 (replicate 216 0) 216 b6
       → b7 ≡ body s ++ drop 508 old
   body-put e1 e2 e3 e4 e5 e6 e7 =
       let f1 = pair_put e1 in
@@ -84,8 +70,7 @@ module _ (s : Record) (old : List ℕ) (room : length old ≡ 512) (w : Whole s)
       let f4 = put-words 4 2 8 44 s.ar2 r3 w.2 refl f3 (omega arith) e4 in
       let f5 = put-words 4 36 144 52 s.fir r4 w.3 refl f4 (omega arith) e5 in
       let f6 = put-words 2 48 96 196 s.delay pads w.4 refl f5 (omega arith) e6 in
-      let p7 = rw (bytes-zero 216) at e7 in
-      let f7 = place-part {rest = []} pads 216 refl f6 (omega (arith, f6.len)) p7 in
+      let f7 = place-part {rest = []} pads 216 refl f6 (omega (arith, f6.len)) e7 in
       fill_end (body s) old f7 ∙ rw (← fill-count (body s) old f7) refl
 
 -- ---- the check behind it

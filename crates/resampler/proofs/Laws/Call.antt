@@ -7,13 +7,12 @@ use Prim.Native.Nat.{ℕ, zero, suc, ◌+◌, ◌*◌, ◌-◌, ◌/◌, ◌%◌
 use native.Mathlib.Nat.{div-add-mod', mul-div_cancel, mul-mod_left, add-mul, mod_self}
 use native.Mathlib.Omega.{arith}
 use borrow.Author.Tests.{leb-true}
-use borrow.Rule.Slice.PartMut.{mid_of, post_of, put_mid, mid_len, same_len_mid}
+use borrow.Rule.Slice.PartMut.{post_of, put_mid, mid_len, same_len_mid}
 use lib.Dec.{leb}
 use lib.IntN.{ℤ}
 use lib.ListN.{length, take, drop, length-append, length-take, length-drop}
 use lib.Seq.{length-take-le, take-nil, take-take, take_at, take-append-add, drop-append-add}
 use Rattle.stages.specs.Outcome.{over, Staged}
-use Rattle.stages.proofs.Laws.Outcome.{over-full}
 use Rattle.filters.proofs.Laws.Lists.{part-rest}
 use Rattle.resampler.specs.declared.Record.{Record}
 use Rattle.resampler.specs.Pairs.{Pair, supported, path, rate_id, delay, delay_matrix_enc, delay_matrix_dec}
@@ -129,20 +128,19 @@ module _ (s : Record) (xs : List ℤ) (room : ℕ) (c : Calling s (length xs) ro
   rest-length = length-drop k (take n (live_delay s ++ xs)) ∙ omega (arith, length-take n (live_delay s ++ xs), length-append (live_delay s) xs)
 
   -- the delay samples, and the input written behind those that are carried: the first millisecond stands in front
-  pub first-filled : {m : ℕ} (zs : List ℤ) → m ≡ d → zs ≡ over (take (k - m) xs) (mid_of m (k - m) s.delay)
+  pub first-filled : {m : ℕ} (zs : List ℤ) → m ≡ d → zs ≡ take (k - m) xs
       → (take k (put_mid m (k - m) s.delay zs) ≡ first s xs) × (length (put_mid m (k - m) s.delay zs) ≡ 48)
   first-filled {m} zs h e =
       let b = s.delay in
       let few = (small p c.pair).2 in
       let l = mid_len m k b (omega (arith, few, c.delay)) in
       let t = length-take-le (k - m) xs (omega (arith, first_fits)) in
-      let z : zs ≡ take (k - m) xs = e ∙ over-full (take (k - m) xs) (mid_of m (k - m) b) (l ∙ sym t) in
       let a = length-take-le m b (omega (arith, h, within, few, c.delay)) in
       let f : length (take m b ++ take (k - m) xs) ≡ k = length-append (take m b) (take (k - m) xs) ∙ omega (arith, t, a, h, within) in
       let is : put_mid m (k - m) b zs ≡ (take m b ++ take (k - m) xs) ++ post_of m (k - m) b =
-      ap (λ (y : List ℤ). take m b ++ (y ++ post_of m (k - m) b)) z ∙ sym (append_assoc (take m b) (take (k - m) xs) (post_of m (k - m) b)) in (
+      ap (λ (y : List ℤ). take m b ++ (y ++ post_of m (k - m) b)) e ∙ sym (append_assoc (take m b) (take (k - m) xs) (post_of m (k - m) b)) in (
         ap (take k) is ∙ take_at _ (post_of m (k - m) b) k f ∙ (λ i. take (h i) b ++ take (k - h i) xs) ∙ sym first-is,
-        same_len_mid m (k - m) b zs (ap length z ∙ t ∙ sym l) ∙ c.delay,
+        same_len_mid m (k - m) b zs (ap length e ∙ t ∙ sym l) ∙ c.delay,
       )
 
   sized : Sized (path p) (live s)

@@ -3,24 +3,23 @@
 use Rattle.std.specs.Prelude.{if◌then◌else◌}
 use mathlib.Core.Path.{◌≡◌, refl, sym, ◌∙◌}
 use mathlib.Core.Bool.{Bool, true, false, ◌&&◌}
-use mathlib.Core.List.{List, ◌++◌, append-nil}
-use Prim.Native.Nat.{ℕ, suc, ◌+◌, ◌-◌, ◌<◌, ◌≤◌}
+use mathlib.Core.List.{List, [], append-nil}
+use Prim.Native.Nat.{ℕ, ◌-◌, ◌≤◌}
 use native.Mathlib.Omega.{arith}
 use borrow.Author.Tests.{leb-true}
+use borrow.Rule.Slice.PartMut.{mid_of, post_of, put_mid, mid_len}
 use lib.Dec.{leb}
 use lib.IntN.{ℤ, pos}
-use lib.ListN.{length, take, drop, set, replicate, length-replicate, length-take}
+use lib.ListN.{length, take, drop, replicate, length-take, length-drop}
 use lib.Seq.{length-take-le}
 use Rattle.filters.specs.Lists.{padded, every}
 use Rattle.filters.specs.Stage.DownFir.{down_1_3, down_1_4, down_1_6}
 use Rattle.filters.proofs.Laws.Lists.{drop-none, padded-length}
-use Rattle.stages.proofs.Laws.Loop.{Filling, fill_one}
 use Rattle.resampler.specs.declared.Record.{Record}
 use Rattle.resampler.specs.Pairs.{Pair, pair, supported, rate_id, delay, delay_matrix_enc, delay_matrix_dec, path, filter}
 use Rattle.resampler.specs.Record.{pair_of, living, live, live_delay, dead, keeping, record_of, cleaned}
 use Rattle.resampler.specs.Block.{zero?}
 use Rattle.resampler.proofs.Laws.Pairs.{of-each}
-use Rattle.little_endian.proofs.Laws.Place.{place-start, place_end}
 use Rattle.resampler.proofs.Laws.Scan.{every-five}
 
 -- ---- live entries
@@ -42,7 +41,7 @@ delay-few p h = leb-true _ 48 (of-each (λ p. leb (delay p) 48) refl p h)
 
 -- the live entries of each array, and zeros behind them, are the record that is meant
 pub cleaned-is : (s : Record) {doubler samples ar2 fir delays : List ℤ}
-    → (let n = living (path (pair 0 s.inKhz s.outKhz)) in
+    → (let n = living (path (pair_of s)) in
     (doubler ≡ padded 6 (take n.doubler s.doubler)) × (samples ≡ padded 8 (take n.samples s.samples))
     × (ar2 ≡ padded 2 (take n.ar2 s.ar2)) × (fir ≡ padded 36 (take n.fir s.fir)))
     → delays ≡ padded 48 (take (delay (pair s.direction s.inKhz s.outKhz)) s.delay)
@@ -89,30 +88,14 @@ cleaned-whole s w =
 
 -- ---- clearing
 
--- the length and the number of live entries by other names
-pub kept : (xs : List ℤ) {ys : List ℤ} {m n k : ℕ} → length xs ≡ m → n ≡ k → ys ≡ padded (length xs) (take n xs) → ys ≡ padded m (take k xs)
-kept xs l h e = e ∙ (λ i. padded (l i) (take (h i) xs))
-
-module _ (from : ℕ) (old : List ℤ) where
-  -- the entries before i are kept or cleared
-  pub record Clearing (i : ℕ) (o : List ℤ) : Type 0 where
-    pub within : from ≤ length old
-    pub filling : Filling (take from old ++ replicate (length old - from) (pos 0)) old i o (replicate (length old - i) (pos 0))
-
-  pub clear-start : from ≤ length old → Clearing from old
-  clear-start h = record { within = h; filling = place-start from _ old h }
-
-  pub clear-turn : {i : ℕ} {o : List ℤ} → i < length o → Clearing i o → Clearing (i + 1) (set o i (pos 0))
-  clear-turn {i} h c =
-      let e : length old - i ≡ suc (length old - (i + 1)) = omega (arith, c.filling.len) in
-      record { within = c.within; filling = fill_one _ old (rw e at c.filling) h }
-
-  pub clear-end : {i : ℕ} {o : List ℤ} → length o ≤ i → Clearing i o → o ≡ padded (length old) (take from old)
-  clear-end {i} h c =
-      let e : length old - i ≡ 0 = omega (arith, c.filling.len) in
-      let n = length old - from in
-      place_end from _ old c.within n (length-replicate n (pos 0)) (rw e at c.filling)
-      ∙ rw (drop-none old (from + n) (omega (arith, c.within)), append-nil, length-take-le from old c.within) refl
+-- zeros written from the live entries on
+pub cleared : (m k : ℕ) (xs : List ℤ) {n : ℕ} {ys : List ℤ} → length xs ≡ m → n ≡ k → n ≤ m → ys ≡ replicate (length (mid_of n (length xs - n) xs)) (pos 0)
+    → put_mid n (length xs - n) xs ys ≡ padded m (take k xs)
+cleared m k xs {n} l e h z =
+    let t : length (take k xs) ≡ k = length-take-le k xs (omega arith) in
+    let none : post_of n (length xs - n) xs ≡ [] = drop-none (drop n xs) (length xs - n) (omega (arith, length-drop n xs)) in
+    let count : length (mid_of n (length xs - n) xs) ≡ m - length (take k xs) = mid_len n (length xs) xs (omega arith) ∙ omega arith in
+    rw (none, z, count, append-nil, e) refl
 
 -- ---- looking whether they are cleared
 
@@ -122,7 +105,7 @@ looked xs h e = e ∙ (λ i. every zero? (drop (h i) xs))
 
 -- what each array shows is what the dead entries show
 pub dead-is : (s : Record) {inDoubler inSamples inAr2 inFir inDelay : Bool}
-    → (let n = living (path (pair 0 s.inKhz s.outKhz)) in
+    → (let n = living (path (pair_of s)) in
     (inDoubler ≡ every zero? (drop n.doubler s.doubler)) × (inSamples ≡ every zero? (drop n.samples s.samples))
     × (inAr2 ≡ every zero? (drop n.ar2 s.ar2)) × (inFir ≡ every zero? (drop n.fir s.fir)))
     → inDelay ≡ every zero? (drop (delay (pair s.direction s.inKhz s.outKhz)) s.delay)

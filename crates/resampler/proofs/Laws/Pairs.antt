@@ -69,6 +69,20 @@ small p h =
     let (o, q) = both_true (leb 8 p.outKhz) _ t3 in
     (leb-true _ 1 d, leb-true 8 _ i, leb-true _ 48 j, leb-true 8 _ o, leb-true _ 48 q)
 
+-- no rate of 0 is supported
+unsupported : (p : Pair) → (supported p ≡ true → ⊥) → supported p ≡ false
+unsupported p h = go (supported p) h
+  where
+    go : (b : Bool) → (b ≡ true → ⊥) → b ≡ false
+    go true n = absurd (n refl)
+    go false n = refl
+
+pub none-in : (p : Pair) → p.inKhz ≡ 0 → supported p ≡ false
+none-in p e = unsupported p (λ h. omega (arith, (small p h).1))
+
+pub none-out : (p : Pair) → p.outKhz ≡ 0 → supported p ≡ false
+none-out p e = unsupported p (λ h. omega (arith, (small p h).3))
+
 -- the test of a direction, the others ruled out
 pub enc-only : (a : Bool) → (a || false) ≡ a
 enc-only true = refl

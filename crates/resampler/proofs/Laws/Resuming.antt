@@ -9,19 +9,17 @@ use borrow.Author.Tests.{eq-eqb, ne_eqb, eqb-true}
 use lib.Dec.{eqb}
 use lib.ListN.{length, take, drop, get_or}
 use Rattle.filters.specs.Lists.{every}
-use Rattle.stages.specs.declared.answer.Answer.{Answer}
-use Rattle.stages.specs.declared.answer.Answer.TheVariants.{Done, Refused}
-use Rattle.stages.specs.Outcome.{outcome}
+use Rattle.stages.specs.Outcome.{Done, outcome}
 use Rattle.filters.proofs.Laws.Lists.{tabulate-length, both_true}
 use Rattle.resampler.specs.declared.Record.{Record}
 use Rattle.resampler.specs.Pairs.{supported}
-use Rattle.resampler.specs.Record.{pair_of, dead, blank}
-use Rattle.little_endian.specs.Bytes.{value, words_at}
+use Rattle.resampler.specs.Record.{pair_of, dead}
+use Rattle.little_endian.specs.Bytes.{value, read_by}
 use Rattle.resampler.specs.Block.{check, layout, zero?, record_in, resume_row, resume_outcome}
 use Rattle.resampler.proofs.Laws.Entries.{Whole}
 
 pub in_whole : (b : List ℕ) → Whole (record_in b)
-unfolding words_at record_in
+unfolding read_by record_in
 in_whole b =
     (tabulate-length 0 6 _, tabulate-length 0 8 _, tabulate-length 0 2 _, tabulate-length 0 36 _, tabulate-length 0 48 _)
 
@@ -105,11 +103,6 @@ module _ (b : List ℕ) where
   unfolding resume_row
   accepted-row a =
       rw (eq-eqb (length b) 512 a.long, eq-eqb (value (drop 508 b)) (check b) a.sum, eq-eqb (get_or b 3 0) layout a.form, a.pair, a.rest, a.pads) refl
-
-  pub resume-refused : {a : Answer} {r : Record} (row : ℕ) → (a ≡ Refused row) × (r ≡ blank) → resume_row b ≡ row → (row ≡ 0 → ⊥)
-      → outcome a r tt ≡ resume_outcome b
-  unfolding resume_outcome
-  resume-refused row (e, d) h n = (λ i. outcome (e i) (d i) tt) ∙ rw (h, ne_eqb row 0 n) refl
 
   pub resume-done : {r : Record} → r ≡ record_in b → resume_row b ≡ 0 → outcome (Done 0) r tt ≡ resume_outcome b
   unfolding resume_outcome

@@ -11,13 +11,12 @@ use lib.IntN.{ℤ, pos, negsuc}
 use lib.ListN.{length, take, drop, get_or, replicate, length-append, length-drop, take-append-drop}
 use lib.Seq.{length-take-le, take_all, take_at, drop_at, drop-drop, take-add, take-take}
 use Rattle.filters.specs.Lists.{every, padded}
-use Rattle.stages.specs.declared.answer.Answer.TheVariants.{Done}
-use Rattle.stages.specs.Outcome.{outcome}
+use Rattle.stages.specs.Outcome.{Done, outcome}
 use Rattle.filters.proofs.Laws.Lists.{both_true}
 use Rattle.resampler.specs.declared.Record.{Record}
 use Rattle.resampler.specs.Pairs.{path, delay, supported}
 use Rattle.resampler.specs.Record.{pair_of, living, live, live_delay, dead, keeping, record_of, cleaned}
-use Rattle.little_endian.specs.Bytes.{bytes, value, laid, words_at}
+use Rattle.little_endian.specs.Bytes.{bytes, value, bits_of, laid, words_at}
 use Rattle.resampler.specs.Block.{weighed, check, layout, body, block_of, record_in, zero?, resume_row, resume_outcome}
 use Rattle.resampler.specs.Claims.{byte?, Array, Held}
 use Rattle.resampler.proofs.Laws.Pairs.{small}
@@ -119,7 +118,7 @@ module _ (s : Record) (h : Held s) (ok : supported (pair_of s) ≡ true) where
 
   next : (k m i : ℕ) (ws : List ℤ) (rest : List ℕ) → length ws ≡ m → drop i block ≡ laid k ws ++ rest → drop (i + k * m) block ≡ rest
   next k m i ws rest l e =
-      sym (drop-drop (k * m) i block) ∙ ap (drop (k * m)) e ∙ drop_at (laid k ws) rest (k * m) (laid-length k ws ∙ ap (λ (n : ℕ). k * n) l)
+      sym (drop-drop (k * m) i block) ∙ ap (drop (k * m)) e ∙ drop_at (laid k ws) rest (k * m) (laid-length (bits_of k) k ws ∙ ap (λ (n : ℕ). k * n) l)
 
   at-samples : drop 28 block ≡ t1
   at-samples = next 4 6 4 s.doubler t1 h.doubler.0 at-doubler

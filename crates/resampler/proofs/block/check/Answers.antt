@@ -1,6 +1,8 @@
 -- `resampler::block::check` meets its contract: at each turn the sum and what the bytes to come weigh are the whole.
 -- Assumes nothing.
+use Prim.Native.Nat.{◌<◌}
 use native.Mathlib.Omega.{arith}
+use lib.Seq.{length-take-le, get_or-take}
 use Rattle.resampler.proofs.Laws.Check.{weigh-start, weigh-turn, weigh-end}
 use Rattle.resampler.proofs.block.check.Goals as goal
 
@@ -9,21 +11,9 @@ loop-i-init c = weigh-start _ c.requires
 
 pub loop-i-preserved : goal.loop-i-preserved
 loop-i-preserved c =
-    weigh-turn _ (omega (arith, c.loop-i-test.true)) c.loop-i.invariant (c.shared_slice_known-1.given c.loop-i.i).fits
-
-pub overflow_cast-sum : goal.overflow_cast-sum
-overflow_cast-sum c = omega (arith, c.shared_slice_known-1.given c.loop-i.i)
-
--- the turn says too that the sum fits
-pub overflow_mul-sum : goal.overflow_mul-sum
-overflow_mul-sum c =
-    let turn = weigh-turn _ (omega (arith, c.loop-i-test.true)) c.loop-i.invariant (c.shared_slice_known-1.given c.loop-i.i).fits in
-    omega (arith, turn.fits)
-
-pub overflow_add-sum-in-loop-i : goal.overflow_add-sum-in-loop-i
-overflow_add-sum-in-loop-i c =
-    let turn = weigh-turn _ (omega (arith, c.loop-i-test.true)) c.loop-i.invariant (c.shared_slice_known-1.given c.loop-i.i).fits in
-    omega (arith, turn.fits)
+    let i = c.loop-i.i in
+    let n : i < 508 = omega (arith, length-take-le 508 c.args.block.now c.requires) in
+    rw (c.from.ensures, get_or-take 508 c.args.block.now i 0 n) (weigh-turn _ n c.loop-i.invariant (c.type_inv.block i).fits)
 
 pub returns : goal.returns
-returns c = weigh-end _ c.loop-i-test.false c.before.before.loop-i.invariant
+returns c = weigh-end _ (omega (arith, length-take-le 508 c.args.block.now c.requires)) c.loop-i.invariant

@@ -1,30 +1,27 @@
 -- `resampler::entries::dead_zero` meets its contract: each array is looked through from its live entries on.
 -- Assumes nothing.
-use Rattle.resampler.specs.Record.{pair_of}
-use Rattle.resampler.proofs.Laws.Pairs.{small}
+use Prim.Native.Nat.{◌-◌}
+use mathlib.Core.Path.{◌∙◌}
+use borrow.Author.Rules.{rules}
+use borrow.Author.Tests.{tests}
+use lib.IntN.{pos}
+use lib.ListN.{length, take, drop}
+use Rattle.std.specs.Ordering.{int_eq}
+use Rattle.std.proofs.lemmas.Iterator.{YieldsList-from_slice}
+use Rattle.std.proofs.lemmas.Iterator.Search.{all_from_yields_List}
 use Rattle.resampler.proofs.Laws.Entries.{looked, dead-is}
+use Rattle.resampler.proofs.Laws.Scan.{rest-words}
 use Rattle.resampler.proofs.entries.dead_zero.Goals as goal
-
-pub living-n-requires : goal.living-n-requires
-living-n-requires c =
-    let s = c.before.before in
-    let (d, i, j, o, q) = small (pair_of s.args.s) s.requires.s_value in
-    (j, q)
 
 pub returns : goal.returns
 returns c =
-    let asked = c.before in
-    let fir = asked.before.before.before.before in
-    let ar2 = fir.before.before.before in
-    let samples = ar2.before.before.before in
-    let doubler = samples.before.before.before in
-    let lives = doubler.before.before.before in
-    let n = lives.living-n.ensures.fact in
-    let s = lives.before.before.before.args.s in
+    let s = c.args.known.state in
+    let n = c.living-n.result in
+    let (d, m, a, f, l) = c.living-n.ensures.fact in
     dead-is s (
-      looked s.doubler n.0 doubler.words_zero-inDoubler.ensures,
-      looked s.samples n.1 samples.samples_zero-inSamples.ensures,
-      looked s.ar2 n.2 ar2.words_zero-inAr2.ensures,
-      looked s.fir n.3 fir.words_zero-inFir.ensures,
+      looked s.doubler d (all_from_yields_List (λ z. int_eq z (pos 0)) _ _ c.all-inDoubler.result c.all-inDoubler.ensures.ran (YieldsList-from_slice (take (length s.doubler - n.doubler) (drop n.doubler s.doubler)) cc) (λ x b q k. search (rules, tests)) ∙ rest-words n.doubler s.doubler),
+      looked s.samples m (all_from_yields_List (λ z. int_eq z (pos 0)) _ _ c.all-inSamples.result c.all-inSamples.ensures.ran (YieldsList-from_slice (take (length s.samples - n.samples) (drop n.samples s.samples)) cc) (λ x b q k. search (rules, tests)) ∙ rest-words n.samples s.samples),
+      looked s.ar2 a (all_from_yields_List (λ z. int_eq z (pos 0)) _ _ c.all-inAr2.result c.all-inAr2.ensures.ran (YieldsList-from_slice (take (length s.ar2 - n.ar2) (drop n.ar2 s.ar2)) cc) (λ x b q k. search (rules, tests)) ∙ rest-words n.ar2 s.ar2),
+      looked s.fir f (all_from_yields_List (λ z. int_eq z (pos 0)) _ _ c.all-inFir.result c.all-inFir.ensures.ran (YieldsList-from_slice (take (length s.fir - n.fir) (drop n.fir s.fir)) cc) (λ x b q k. search (rules, tests)) ∙ rest-words n.fir s.fir),
     )
-    (looked s.delay asked.delay.ensures c.samples_zero-inDelay.ensures)
+    (looked s.delay l (all_from_yields_List (λ z. int_eq z (pos 0)) _ _ c.all-inDelay.result c.all-inDelay.ensures.ran (YieldsList-from_slice (take (length s.delay - n.delay) (drop n.delay s.delay)) cc) (λ x b q k. search (rules, tests)) ∙ rest-words n.delay s.delay))

@@ -1,43 +1,52 @@
 -- `resampler::entries::living` meets its contract: each test is the path's.
 -- Assumes nothing.
 use mathlib.Core.Path.{refl}
-use Prim.Native.Nat.{◌*◌}
+use Prim.Native.Nat.{◌*◌, ◌≤◌}
 use native.Mathlib.Omega.{arith}
 use borrow.Author.Tests.{eq-eqb, ne_eqb, lt-ltb, le-ltb}
-use Rattle.resampler.specs.Pairs.{path}
-use Rattle.resampler.specs.Record.{living}
+use Rattle.resampler.specs.Pairs.{path, filter, delay}
+use Rattle.resampler.specs.declared.known.Known.{Known}
+use Rattle.resampler.specs.Record.{pair_of, living}
+use Rattle.resampler.proofs.Laws.Pairs.{small}
+use Rattle.resampler.proofs.Laws.Entries.{delay-few}
 use Rattle.resampler.proofs.entries.living.Goals as goal
 
-pub returns-then-outKhz-inKhz : goal.returns-then-outKhz-inKhz
-unfolding path living
-returns-then-outKhz-inKhz c =
-    let a = c.before.args in
-    let e = eq-eqb a.outKhz a.inKhz c.if-outKhz-inKhz.true in
-    record { fact = rw e (refl, refl, refl, refl); doubler_bound = (omega arith, omega arith, omega arith, omega arith) }
+pub returns-then-outKhz-inKhz-clause-fact : goal.returns-then-outKhz-inKhz-clause-fact
+unfolding path filter living
+returns-then-outKhz-inKhz-clause-fact c = let a = c.args.known.state in rw (eq-eqb a.outKhz a.inKhz c.if-outKhz-inKhz.true) (refl, refl, refl, refl, c.delay.ensures)
 
-pub returns-then-outKhz-inKhz-2 : goal.returns-then-outKhz-inKhz-2
-unfolding path living
-returns-then-outKhz-inKhz-2 c =
-    let a = c.before.before.args in
-    let e = ne_eqb a.outKhz a.inKhz c.before.if-outKhz-inKhz.false in
-    let d = eq-eqb a.outKhz (2 * a.inKhz) c.if-outKhz-inKhz-2.true in
-    record { fact = rw (e, d) (refl, refl, refl, refl); doubler_bound = (omega arith, omega arith, omega arith, omega arith) }
+pub returns-then-outKhz-inKhz-2-clause-fact : goal.returns-then-outKhz-inKhz-2-clause-fact
+unfolding path filter living
+returns-then-outKhz-inKhz-2-clause-fact c =
+    let a = c.args.known.state in
+    rw (ne_eqb a.outKhz a.inKhz c.if-outKhz-inKhz.false, eq-eqb a.outKhz (2 * a.inKhz) c.if-outKhz-inKhz-2.true) (refl, refl, refl, refl, c.delay.ensures)
 
-pub returns-then-inKhz-outKhz : goal.returns-then-inKhz-outKhz
-unfolding path living
-returns-then-inKhz-outKhz c =
-    let a = c.before.before.before.args in
-    let e = ne_eqb a.outKhz a.inKhz c.before.before.if-outKhz-inKhz.false in
-    let d = ne_eqb a.outKhz (2 * a.inKhz) c.before.if-outKhz-inKhz-2.false in
-    let l = lt-ltb a.inKhz a.outKhz c.if-inKhz-outKhz.true in
-    record { fact = rw (e, d, l) (refl, refl, refl, refl); doubler_bound = (omega arith, omega arith, omega arith, omega arith) }
+pub returns-then-inKhz-outKhz-clause-fact : goal.returns-then-inKhz-outKhz-clause-fact
+unfolding path filter living
+returns-then-inKhz-outKhz-clause-fact c =
+    let a = c.args.known.state in
+    rw (ne_eqb a.outKhz a.inKhz c.if-outKhz-inKhz.false, ne_eqb a.outKhz (2 * a.inKhz) c.if-outKhz-inKhz-2.false, lt-ltb a.inKhz a.outKhz c.if-inKhz-outKhz.true) (refl, refl, refl, refl, c.delay.ensures)
 
-pub returns : goal.returns
-unfolding path living
-returns c =
-    let t = c.before in
-    let a = t.before.before.before.args in
-    let e = ne_eqb a.outKhz a.inKhz t.before.before.if-outKhz-inKhz.false in
-    let d = ne_eqb a.outKhz (2 * a.inKhz) t.before.if-outKhz-inKhz-2.false in
-    let l = le-ltb a.inKhz a.outKhz t.if-inKhz-outKhz.false in
-    record { fact = rw (e, d, l) (refl, refl, refl, c.order-fir.ensures.0); doubler_bound = (omega arith, omega arith, omega arith, c.order-fir.ensures.1) }
+pub returns-else-inKhz-outKhz-clause-fact : goal.returns-else-inKhz-outKhz-clause-fact
+unfolding path filter living
+returns-else-inKhz-outKhz-clause-fact c =
+    let a = c.args.known.state in
+    rw (ne_eqb a.outKhz a.inKhz c.if-outKhz-inKhz.false, ne_eqb a.outKhz (2 * a.inKhz) c.if-outKhz-inKhz-2.false, le-ltb a.inKhz a.outKhz c.if-inKhz-outKhz.false) (refl, refl, refl, c.order.ensures.0, c.delay.ensures)
+
+few : (known : Known) → (known.state.inKhz ≤ 48) × (known.state.outKhz ≤ 48) × (delay (pair_of known.state) ≤ 48)
+few known = let (d, i, j, o, q) = small _ known.supported in (j, q, delay-few _ known.supported)
+
+pub order-requires : goal.order-requires
+order-requires c = let (i, o, d) = few c.args.known in (i, o)
+
+pub returns-then-outKhz-inKhz-clause-bound : goal.returns-then-outKhz-inKhz-clause-bound
+returns-then-outKhz-inKhz-clause-bound c = let (i, o, d) = few c.args.known in omega (arith, c.delay.ensures)
+
+pub returns-then-outKhz-inKhz-2-clause-bound : goal.returns-then-outKhz-inKhz-2-clause-bound
+returns-then-outKhz-inKhz-2-clause-bound c = let (i, o, d) = few c.args.known in omega (arith, c.delay.ensures)
+
+pub returns-then-inKhz-outKhz-clause-bound : goal.returns-then-inKhz-outKhz-clause-bound
+returns-then-inKhz-outKhz-clause-bound c = let (i, o, d) = few c.args.known in omega (arith, c.delay.ensures)
+
+pub returns-else-inKhz-outKhz-clause-bound : goal.returns-else-inKhz-outKhz-clause-bound
+returns-else-inKhz-outKhz-clause-bound c = let (i, o, d) = few c.args.known in omega (arith, c.delay.ensures, c.order.ensures.1)

@@ -1,6 +1,6 @@
 -- `resampler::entries::order` meets its contract: each test is the filter's, and the last three filters have one order.
 -- Assumes nothing.
-use mathlib.Core.Path.{refl, sym}
+use mathlib.Core.Path.{sym}
 use Prim.Native.Nat.{◌*◌}
 use native.Mathlib.Omega.{arith}
 use borrow.Author.Tests.{eq-eqb, ne_eqb}
@@ -11,27 +11,19 @@ use Rattle.resampler.proofs.entries.order.Goals as goal
 
 pub returns-then-outKhz-inKhz : goal.returns-then-outKhz-inKhz
 unfolding filter
-returns-then-outKhz-inKhz c = let a = c.before.args in (rw (eq-eqb (a.outKhz * 4) (a.inKhz * 3) c.if-outKhz-inKhz.true) refl, omega arith)
+returns-then-outKhz-inKhz c = (simp (eq-eqb _ _ c.if-outKhz-inKhz.true), omega arith)
 
 pub returns-then-outKhz-inKhz-2 : goal.returns-then-outKhz-inKhz-2
 unfolding filter
-returns-then-outKhz-inKhz-2 c =
-    let e = c.before in
-    let a = e.before.args in
-    (rw (ne_eqb (a.outKhz * 4) (a.inKhz * 3) e.if-outKhz-inKhz.false, eq-eqb (a.outKhz * 3) (a.inKhz * 2) c.if-outKhz-inKhz-2.true) refl, omega arith)
+returns-then-outKhz-inKhz-2 c = (simp (ne_eqb _ _ c.if-outKhz-inKhz.false, eq-eqb _ _ c.if-outKhz-inKhz-2.true), omega arith)
 
 pub returns-then-outKhz-inKhz-3 : goal.returns-then-outKhz-inKhz-3
 unfolding filter
 returns-then-outKhz-inKhz-3 c =
-    let d = c.before in
-    let e = d.before in
-    let a = e.before.args in
-    (rw (ne_eqb (a.outKhz * 4) (a.inKhz * 3) e.if-outKhz-inKhz.false, ne_eqb (a.outKhz * 3) (a.inKhz * 2) d.if-outKhz-inKhz-2.false, eq-eqb (a.outKhz * 2) a.inKhz c.if-outKhz-inKhz-3.true) refl, omega arith)
+    (simp (ne_eqb _ _ c.if-outKhz-inKhz.false, ne_eqb _ _ c.if-outKhz-inKhz-2.false, eq-eqb _ _ c.if-outKhz-inKhz-3.true), omega arith)
 
-pub returns : goal.returns
+pub returns-else-outKhz-inKhz-3 : goal.returns-else-outKhz-inKhz-3
 unfolding filter
-returns c =
-    let d = c.before in
-    let e = d.before in
-    let a = e.before.args in
-    (rw (ne_eqb (a.outKhz * 4) (a.inKhz * 3) e.if-outKhz-inKhz.false, ne_eqb (a.outKhz * 3) (a.inKhz * 2) d.if-outKhz-inKhz-2.false, ne_eqb (a.outKhz * 2) a.inKhz c.if-outKhz-inKhz-3.false) (sym (order_least (eqb (a.outKhz * 3) a.inKhz) (eqb (a.outKhz * 4) a.inKhz))), omega arith)
+returns-else-outKhz-inKhz-3 c =
+    let a = c.args in
+    (rw (ne_eqb (a.outKhz * 4) (a.inKhz * 3) c.if-outKhz-inKhz.false, ne_eqb (a.outKhz * 3) (a.inKhz * 2) c.if-outKhz-inKhz-2.false, ne_eqb (a.outKhz * 2) a.inKhz c.if-outKhz-inKhz-3.false) (sym (order_least (eqb (a.outKhz * 3) a.inKhz) (eqb (a.outKhz * 4) a.inKhz))), omega arith)

