@@ -5,14 +5,12 @@ use Rattle.filters.specs.Run.{pass_out, pass_end}
 use Rattle.filters.specs.Stage.Ar2.{ar2_end}
 use Rattle.filters.specs.Stage.Up2Hq.{up2, up2_end}
 use Rattle.filters.specs.Stage.IirFir.{iir_fir, iir_fir_carried}
-use Rattle.filters.specs.Lists.{padded}
 use Rattle.filters.specs.Reader.{outputs}
-use Rattle.filters.specs.Stage.DownFir.{Filter, down_fir, down_fir_carried, down_pass, down_end}
-use Rattle.stages.specs.declared.down_fir.DownWords.{DownWords}
+use Rattle.filters.specs.Stage.DownFir.{down_fir, down_fir_carried}
 use Rattle.stages.specs.Outcome.{Staged}
 use Rattle.resampler.specs.declared.Record.{Record}
-use Rattle.resampler.specs.Pairs.{Pair, pair, Path, copy, doubler, interpolator, down, supported, filter, path, increment}
-use Rattle.resampler.specs.Record.{Words, arrays, pair_of, live, live_delay, record_of}
+use Rattle.resampler.specs.Pairs.{Pair, Path, copy, doubler, interpolator, down, supported, path, increment}
+use Rattle.resampler.specs.Record.{Words, arrays, pair_of, live, live_delay, keeping, record_of}
 
 -- n samples of input are n / in-kHz milliseconds, and each makes out-kHz samples
 unfoldable pub made : Pair → ℕ → ℕ
@@ -72,24 +70,23 @@ both_out s = twice (pass (pair_of s)) (pass_words (pair_of s)) (live s)
 unfoldable pub both_after : Record → List ℤ → List ℤ → List ℤ → Record
 both_after s xs ys zs = record_of (pair_of s) (twice_end (pass_words (pair_of s)) (live s) xs ys) zs
 
+-- the same, its delay samples as they were
+unfoldable pub moved : Record → List ℤ → List ℤ → Record
+moved s xs ys = keeping (pair_of s) (twice_end (pass_words (pair_of s)) (live s) xs ys) s.delay
+
+-- what both leave
+abbrev pub Passed : Record → List ℤ → List ℤ → List ℤ → List ℤ → Record → Type 0
+Passed s xs ys before after q = Staged (both_out s xs ys) (moved s xs ys) before after q
+
+-- the room that both ask
+abbrev pub room_of : Record → List ℤ → ℕ
+room_of s ys = s.outKhz + outputs (rates_of (pair_of s)) (length ys)
+
 -- what two passes ask: a millisecond, whole ones behind it, and room for what both make
 pub record Taking (r : Rates) (first rest out : List ℤ) : Type 0 where
   pub one : length first ≡ r.inKhz
   pub whole : length rest % r.inKhz ≡ 0
   pub room : r.outKhz + outputs r (length rest) ≤ length out
-
--- the down filter of a stage's rates: it is the same in both directions
-abbrev pub filter_at : Rates → Filter
-filter_at r = filter (pair 0 r.inKhz r.outKhz)
-
--- its live words
-abbrev pub down_live : Filter → DownWords → List ℤ × List ℤ
-down_live g w = (w.ar2, take g.order w.fir)
-
--- what it leaves of two passes: their samples, and its words, those that are not live zero
-pub record Lowered (g : Filter) (r : Rates) (w : DownWords) (xs ys before after : List ℤ) (q : DownWords) : Type 0 where
-  pub staged : Staged (twice (down_pass g r) (down_end g r) (down_live g w) xs ys) (twice_end (down_end g r) (down_live g w) xs ys) before after (down_live g q)
-  pub zeros : q.fir ≡ padded 36 (take g.order q.fir)
 
 -- ---- a call
 

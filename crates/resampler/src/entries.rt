@@ -2,7 +2,7 @@
 ghost use Rattle.std.specs.Prelude.{◌≡◌, ◌≤◌};
 ghost use Rattle.filters.specs.Lists.{every};
 ghost use Rattle.resampler.specs.Pairs as Pairs;
-ghost use Rattle.resampler.specs.Pairs.{pair, path};
+ghost use Rattle.resampler.specs.Pairs.{path};
 ghost use Rattle.resampler.specs.Record as Records;
 ghost use Rattle.resampler.specs.Block.{zero?};
 
@@ -76,24 +76,8 @@ fn living(known: Known) -> Live
     } else {
         Live {
             ar2: 2,
-            fir: order(inKhz, outKhz),
+            fir: known.filter().order,
             ..none
         }
-    }
-}
-
-// The order of the down filter, by the ratio of out to in; neither depends on the direction.
-fn order(inKhz: usize, outKhz: usize) -> usize
-    requires { (inKhz ≤ 48) × (outKhz ≤ 48) }
-    ensures { (result ≡ (Pairs.filter (pair 0 inKhz outKhz)).order) × (result ≤ 36) }
-{
-    if outKhz * 4 == inKhz * 3 {
-        18
-    } else if outKhz * 3 == inKhz * 2 {
-        18
-    } else if outKhz * 2 == inKhz {
-        24
-    } else {
-        36
     }
 }

@@ -1,9 +1,13 @@
-// Records whose pair is supported: what a call, parking and resuming work on. Meaning: specs/Record.antt, specs/Entry.antt.
+// Records whose pair is supported: what a call, parking and resuming work on. Meaning: specs/Pairs.antt, specs/Record.antt.
 ghost use Rattle.std.specs.Prelude.{◌≡◌, true, false, MatchOption};
+ghost use Rattle.filters.specs.Stage.DownFir.{filter_of};
 ghost use Rattle.resampler.specs.Pairs as Pairs;
 ghost use Rattle.resampler.specs.Record as Records;
+ghost use Rattle.resampler.specs.Resample.{rates_of};
 
+use crate::filter::{self, Filter};
 use crate::{Record, pairs};
+use stages::Rates;
 
 // A record of a supported pair.
 #[derive(Clone, Copy)]
@@ -34,5 +38,25 @@ impl Known {
     {
         let s = self.state;
         pairs::delay(s.direction as usize, s.inKhz as usize, s.outKhz as usize)
+    }
+
+    // What a stage that reads is told of the pair.
+    pub fn rates(self) -> Rates
+        ensures { result ≡ rates_of (Records.pair_of self.state) }
+    {
+        let inKhz = self.state.inKhz as usize;
+        let outKhz = self.state.outKhz as usize;
+        Rates {
+            inKhz,
+            outKhz,
+            increment: pairs::increment(inKhz, outKhz),
+        }
+    }
+
+    // The down filter of a lower rate.
+    pub fn filter(self) -> Filter<'static>
+        ensures { filter_of result.order result.coefs.now ≡ Pairs.filter (Records.pair_of self.state) }
+    {
+        filter::at(self.state.inKhz as usize, self.state.outKhz as usize)
     }
 }

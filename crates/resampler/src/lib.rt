@@ -4,6 +4,7 @@
 
 pub mod block;
 mod entries;
+mod filter;
 mod init;
 mod known;
 pub mod pairs;

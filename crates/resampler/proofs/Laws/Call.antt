@@ -13,11 +13,12 @@ use lib.IntN.{ℤ}
 use lib.ListN.{length, take, drop, length-append, length-take, length-drop}
 use lib.Seq.{length-take-le, take-nil, take-take, take_at, take-append-add, drop-append-add}
 use Rattle.stages.specs.Outcome.{over, Staged}
+use Rattle.filters.specs.Lists.{padded}
 use Rattle.filters.proofs.Laws.Lists.{part-rest}
 use Rattle.resampler.specs.declared.Record.{Record}
 use Rattle.resampler.specs.Pairs.{Pair, supported, path, rate_id, delay, delay_matrix_enc, delay_matrix_dec}
-use Rattle.resampler.specs.Record.{pair_of, live, live_delay}
-use Rattle.resampler.specs.Resample.{made, rates_of, signal, pass, both_out, both_after, Taking, first, rest, between, converted, after, Calling}
+use Rattle.resampler.specs.Record.{pair_of, live, live_delay, keeping, record_of}
+use Rattle.resampler.specs.Resample.{made, rates_of, signal, pass, both_out, both_after, moved, Taking, first, rest, between, converted, after, Calling}
 use Rattle.resampler.proofs.Laws.Pairs.{of-each, small}
 use Rattle.resampler.proofs.Laws.Entries.{delay-few}
 use Rattle.resampler.proofs.Laws.Words.{Sized, sized-unused, live-sized, pass-sized}
@@ -41,6 +42,19 @@ drop_of_take zero b xs = let e : b - 0 ≡ b = omega arith in rw e refl
 drop_of_take (suc a) zero xs = let e : 0 - suc a ≡ 0 = omega arith in rw e refl
 drop_of_take (suc a) (suc b) [] = sym (take-nil (suc b - suc a))
 drop_of_take (suc a) (suc b) (x ∷ xs) = let e : suc b - suc a ≡ b - a = omega arith in rw e (drop_of_take a b xs)
+
+-- the record with other delay samples
+abbrev pub carrying : Record → List ℤ → Record
+carrying q ds = record {
+  direction = q.direction;
+  inKhz = q.inKhz;
+  outKhz = q.outKhz;
+  doubler = q.doubler;
+  samples = q.samples;
+  ar2 = q.ar2;
+  fir = q.fir;
+  delay = ds;
+}
 
 -- ---- milliseconds
 
@@ -184,10 +198,10 @@ module _ (s : Record) (xs : List ℤ) (room : ℕ) (c : Calling s (length xs) ro
           room = rw r (omega (arith, l, both-made, c.fits));
         }
 
-    pub call-is : {ts before o : List ℤ} {q : Record} → ts ≡ drop n (signal s xs)
-        → Staged (both_out s ys zs) (both_after s ys zs ts) before o q → Staged (converted s xs) (after s xs) before o q
-    unfolding both_out both_after between converted after
-    call-is {ts} {before} e st = record {
+    pub call-is : {ts before o ds : List ℤ} {q : Record} → ts ≡ drop n (signal s xs) → ds ≡ padded 48 ts
+        → Staged (both_out s ys zs) (moved s ys zs) before o q → Staged (converted s xs) (after s xs) before o (carrying q ds)
+    unfolding both_out moved both_after keeping record_of between converted after
+    call-is {ts} {before} e h st = record {
       filled = st.filled ∙ (λ i. over (both_out s (f i) (g i)) before);
-      carried = st.carried ∙ (λ i. both_after s (f i) (g i) (e i));
+      carried = (λ i. carrying (st.carried i) (h i)) ∙ (λ i. both_after s (f i) (g i) (e i));
     }

@@ -1,25 +1,25 @@
 -- Two passes over whole milliseconds, one behind the other in the output, are one, whatever state they carry; and where it is a
 -- path's words, they are both passes of a call. Assumes nothing.
-use mathlib.Core.Path.{◌≡◌, sym, ap, ◌∙◌}
-use mathlib.Core.List.{List, ◌++◌}
-use Prim.Native.Nat.{◌*◌, ◌-◌, ◌/◌, ◌%◌, ◌<◌, ◌≤◌}
+use mathlib.Core.Path.{◌≡◌, refl, sym, ap, ◌∙◌}
+use mathlib.Core.List.{List, [], ◌++◌, append-nil}
+use Prim.Native.Nat.{ℕ, ◌+◌, ◌*◌, ◌-◌, ◌/◌, ◌%◌, ◌<◌, ◌≤◌}
 use native.Mathlib.Nat.{mul-div_cancel, one-mul, mod_self}
 use native.Mathlib.Omega.{arith}
-use borrow.Rule.Slice.PartMut.{mid_of, put_mid}
+use borrow.Rule.Slice.PartMut.{mid_of, post_of, put_mid}
 use lib.IntN.{ℤ}
 use lib.ListN.{length, drop, length-take, length-drop}
 use Rattle.filters.specs.declared.rates.Rates.{Rates}
-use Rattle.filters.specs.Lists.{padded}
 use Rattle.filters.specs.Reader.{outputs}
 use Rattle.filters.specs.Stage.IirFir.{iir_fir_batch, iir_fir_next, iir_fir_pass}
 use Rattle.filters.specs.Stage.DownFir.{Filter, down_batch, down_next, down_pass}
+use Rattle.filters.proofs.Laws.Lists.{drop-none, part-rest}
 use Rattle.filters.proofs.Laws.Lengths.{iir_fir_batch-length, down_batch-length}
 use Rattle.stages.specs.Outcome.{over, Staged}
 use Rattle.stages.proofs.Laws.Loop.{over-behind}
 use Rattle.stages.proofs.Laws.Pass as Pass
 use Rattle.resampler.specs.declared.Record.{Record}
-use Rattle.resampler.specs.Record.{Words, live, pair_of, keeping, record_of}
-use Rattle.resampler.specs.Resample.{pass, pass_words, twice, twice_end, both_out, both_after, Taking}
+use Rattle.resampler.specs.Record.{Words, live, pair_of, keeping}
+use Rattle.resampler.specs.Resample.{pass, pass_words, twice, twice_end, both_out, moved, Taking, room_of, rates_of}
 
 -- ---- what two passes ask, for each of them
 
@@ -73,15 +73,28 @@ module _ (r : Rates) (some : 0 < r.inKhz) where
   unfolding down_pass
   down_pass-length g = Pass.pass-length r some (down_batch g r) (down_next g) (down_batch-length g r)
 
+-- what two passes ask, of a record's rates
+pub takes : (s : Record) {r : Rates} {xs ys out : List ℤ} → r ≡ rates_of (pair_of s) → length xs ≡ s.inKhz → length ys % s.inKhz ≡ 0
+    → room_of s ys ≤ length out → Taking r xs ys out
+takes s e a b c = rw e (record { one = a; whole = b; room = c })
+
+-- samples copied behind a millisecond are what a pass leaves of all that is lent to it
+pub copied-behind : (k : ℕ) (ys o : List ℤ) {zs : List ℤ} → k ≤ length o → zs ≡ ys
+    → put_mid k (k + length ys - k) o zs ≡ put_mid k (length o - k) o (over ys (mid_of k (length o - k) o))
+copied-behind k ys o h e =
+    let n : k + length ys - k ≡ length ys = omega arith in
+    let none : post_of k (length o - k) o ≡ [] = drop-none (drop k o) (length o - k) (omega (arith, length-drop k o)) in
+    rw (n, e, none, part-rest o k, append-nil) refl
+
 -- ---- both passes of a call, where each is a stage's on a state that is the words of the path
 
 module _ (s : Record) {S : Type 0} (words : S → Words) (out : S → List ℤ → List ℤ) (next : S → List ℤ → S)
     (same : (t : S) (xs : List ℤ) → (pass (pair_of s) (words t) xs ≡ out t xs) × (pass_words (pair_of s) (words t) xs ≡ words (next t xs))) where
-  pub both-staged : {t u : S} {xs ys before after : List ℤ} {q : Record} (zs : List ℤ) → live s ≡ words t
-      → Staged (twice out next t xs ys) (twice_end next t xs ys) before after u → q ≡ keeping (pair_of s) (words u) (padded 48 zs)
-      → Staged (both_out s xs ys) (both_after s xs ys zs) before after q
-  unfolding both_out both_after record_of
-  both-staged {t} {u} {xs} {ys} {before} zs l st e =
+  pub both-staged : {t u : S} {xs ys before after : List ℤ} {q : Record} → live s ≡ words t
+      → Staged (twice out next t xs ys) (twice_end next t xs ys) before after u → q ≡ keeping (pair_of s) (words u) s.delay
+      → Staged (both_out s xs ys) (moved s xs ys) before after q
+  unfolding both_out moved
+  both-staged {t} {u} {xs} {ys} {before} l st e =
       let p = pair_of s in
       let (o, w) = same t xs in
       let (o2, w2) = same (next t xs) ys in
@@ -89,5 +102,5 @@ module _ (s : Record) {S : Type 0} (words : S → Words) (out : S → List ℤ �
       let left = (λ i. pass_words p (pass_words p (l i) xs) ys) ∙ (λ i. pass_words p (w i) ys) ∙ w2 in
       record {
         filled = st.filled ∙ (λ i. over (sym made i) before);
-        carried = e ∙ (λ i. keeping p (words (st.carried i)) (padded 48 zs)) ∙ (λ i. keeping p (sym left i) (padded 48 zs));
+        carried = e ∙ (λ i. keeping p (words (st.carried i)) s.delay) ∙ (λ i. keeping p (sym left i) s.delay);
       }

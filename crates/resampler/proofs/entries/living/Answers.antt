@@ -1,10 +1,11 @@
 -- `resampler::entries::living` meets its contract: each test is the path's.
 -- Assumes nothing.
-use mathlib.Core.Path.{refl}
+use mathlib.Core.Path.{refl, ap}
 use Prim.Native.Nat.{◌*◌, ◌≤◌}
 use native.Mathlib.Omega.{arith}
 use borrow.Author.Tests.{eq-eqb, ne_eqb, lt-ltb, le-ltb}
 use Rattle.resampler.specs.Pairs.{path, filter, delay}
+use Rattle.filters.specs.Stage.DownFir.{Filter}
 use Rattle.resampler.specs.declared.known.Known.{Known}
 use Rattle.resampler.specs.Record.{pair_of, living}
 use Rattle.resampler.proofs.Laws.Pairs.{small}
@@ -31,13 +32,10 @@ pub returns-else-inKhz-outKhz-clause-fact : goal.returns-else-inKhz-outKhz-claus
 unfolding path filter living
 returns-else-inKhz-outKhz-clause-fact c =
     let a = c.args.known.state in
-    rw (ne_eqb a.outKhz a.inKhz c.if-outKhz-inKhz.false, ne_eqb a.outKhz (2 * a.inKhz) c.if-outKhz-inKhz-2.false, le-ltb a.inKhz a.outKhz c.if-inKhz-outKhz.false) (refl, refl, refl, c.order.ensures.0, c.delay.ensures)
+    rw (ne_eqb a.outKhz a.inKhz c.if-outKhz-inKhz.false, ne_eqb a.outKhz (2 * a.inKhz) c.if-outKhz-inKhz-2.false, le-ltb a.inKhz a.outKhz c.if-inKhz-outKhz.false) (refl, refl, refl, ap (λ (f : Filter). f.order) c.filter.ensures, c.delay.ensures)
 
 few : (known : Known) → (known.state.inKhz ≤ 48) × (known.state.outKhz ≤ 48) × (delay (pair_of known.state) ≤ 48)
 few known = let (d, i, j, o, q) = small _ known.supported in (j, q, delay-few _ known.supported)
-
-pub order-requires : goal.order-requires
-order-requires c = let (i, o, d) = few c.args.known in (i, o)
 
 pub returns-then-outKhz-inKhz-clause-bound : goal.returns-then-outKhz-inKhz-clause-bound
 returns-then-outKhz-inKhz-clause-bound c = let (i, o, d) = few c.args.known in omega (arith, c.delay.ensures)
@@ -49,4 +47,4 @@ pub returns-then-inKhz-outKhz-clause-bound : goal.returns-then-inKhz-outKhz-clau
 returns-then-inKhz-outKhz-clause-bound c = let (i, o, d) = few c.args.known in omega (arith, c.delay.ensures)
 
 pub returns-else-inKhz-outKhz-clause-bound : goal.returns-else-inKhz-outKhz-clause-bound
-returns-else-inKhz-outKhz-clause-bound c = let (i, o, d) = few c.args.known in omega (arith, c.delay.ensures, c.order.ensures.1)
+returns-else-inKhz-outKhz-clause-bound c = let (i, o, d) = few c.args.known in omega (arith, c.delay.ensures, c.filter.result.fitting.most)

@@ -45,23 +45,36 @@ slice_bounds-buf-end-2 c =
     let filled = first-filled s c.args.input.now _ c.requires c.copy_from_slice.new.self c.delay-d.ensures c.copy_from_slice.ensures.after in
     omega (arith, filled.1, facts s c.args.input.now c.requires c.delay-d.ensures)
 
-pub slice_bounds-both-end : goal.slice_bounds-both-end
-slice_bounds-both-end c =
+pub slice_bounds-parts-end : goal.slice_bounds-parts-end
+slice_bounds-parts-end c =
     let s = c.args.known.state in
     let filled = first-filled s c.args.input.now _ c.requires c.copy_from_slice.new.self c.delay-d.ensures c.copy_from_slice.ensures.after in
     sym (length-take-le s.inKhz _ (omega (arith, filled.1, facts s c.args.input.now c.requires c.delay-d.ensures)))
 
-pub overflow_sub-inKhz : goal.overflow_sub-inKhz
-overflow_sub-inKhz c = (facts c.args.known.state c.args.input.now c.requires c.delay-d.ensures).0
+pub overflow_sub-parts : goal.overflow_sub-parts
+overflow_sub-parts c = (facts c.args.known.state c.args.input.now c.requires c.delay-d.ensures).0
+
+pub kept-requires : goal.kept-requires
+kept-requires c =
+    let xs = c.args.input.now in
+    let m = length xs - c.delay-d.result in
+    omega (arith, facts c.args.known.state xs c.requires c.delay-d.ensures, length-take (length xs - m) (drop m xs), length-drop m xs)
+
+pub invariant_of-parts : goal.invariant_of-parts
+invariant_of-parts c =
+    let s = c.args.known.state in
+    let xs = c.args.input.now in
+    let filled = first-filled s xs _ c.requires c.copy_from_slice.new.self c.delay-d.ensures c.copy_from_slice.ensures.after in
+    let t = call-takes s xs _ c.requires filled.0 (rest_part s xs _ c.requires c.delay-d.ensures) {out = c.args.out.now} refl in
+    record { one = t.one; whole = t.whole }
 
 pub both-requires : goal.both-requires
 both-requires c =
     let s = c.args.known.state in
     let xs = c.args.input.now in
-    let m = length xs - c.delay-d.result in
     let filled = first-filled s xs _ c.requires c.copy_from_slice.new.self c.delay-d.ensures c.copy_from_slice.ensures.after in
-    let t = call-takes s xs _ c.requires filled.0 (rest_part s xs _ c.requires c.delay-d.ensures) refl in
-    (t, omega (arith, facts s xs c.requires c.delay-d.ensures, length-take (length xs - m) (drop m xs), length-drop m xs))
+    let t = call-takes s xs _ c.requires filled.0 (rest_part s xs _ c.requires c.delay-d.ensures) {out = c.args.out.now} refl in
+    t.room
 
 pub returns : goal.returns
 returns c =
@@ -69,4 +82,4 @@ returns c =
     let xs = c.args.input.now in
     let e = c.delay-d.ensures in
     let filled = first-filled s xs _ c.requires c.copy_from_slice.new.self e c.copy_from_slice.ensures.after in
-    call-is s xs _ c.requires filled.0 (rest_part s xs _ c.requires e) (carried-part s xs _ c.requires e) c.both.ensures
+    call-is s xs _ c.requires filled.0 (rest_part s xs _ c.requires e) (carried-part s xs _ c.requires e) c.kept.ensures c.both.ensures

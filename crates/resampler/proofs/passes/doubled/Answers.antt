@@ -1,0 +1,33 @@
+-- `resampler::passes::doubled` meets its contract: a pass of the doubler is the doubler itself, and its six words are all that is left.
+-- Assumes nothing.
+use mathlib.Core.Path.{refl, sym, ◌∙◌}
+use mathlib.Core.List.{[]}
+use Prim.Native.Nat.{◌<◌}
+use native.Mathlib.Omega.{arith}
+use borrow.Author.Rules.{rules}
+use lib.ListN.{length}
+use Rattle.filters.specs.Stage.Up2Hq.{up2, up2_end}
+use Rattle.filters.proofs.Laws.Lengths.{up2-length}
+use Rattle.resampler.specs.Record.{pair_of, arrays}
+use Rattle.resampler.specs.Resample.{made, rates_of}
+use Rattle.resampler.proofs.Laws.Live.{live-doubler, with-doubler}
+use Rattle.resampler.proofs.Laws.Pairs.{small}
+use Rattle.resampler.proofs.Laws.Passes.{unused, doubled}
+use Rattle.resampler.proofs.Laws.Paths.{path-doubler, made-twice}
+use Rattle.resampler.proofs.Laws.Twice.{takes, twice-staged, both-staged}
+use Rattle.resampler.proofs.passes.doubled.Goals as goal
+
+pub returns : goal.returns
+unfolding unused made
+returns c =
+    let s = c.args.p.known.state in
+    let p = pair_of s in
+    let some : 0 < s.inKhz = omega (arith, (small p c.args.p.known.supported).1) in
+    let double = c.requires.double in
+    let path = path-doubler p (λ e. absurd (omega (arith, e, some, double))) double in
+    let t = takes s refl c.args.p.one c.args.p.whole c.requires.room in
+    let both =
+    twice-staged (rates_of p) some t up2 up2_end (λ w xs h. up2-length w xs ∙ sym (made-twice p (length xs) h double))
+    c.silk_resampler_private_up2_HQ-between.ensures c.silk_resampler_private_up2_HQ-doubler.ensures in
+    both-staged s (λ w. arrays w [] [] []) up2 up2_end (λ w xs. doubled p (arrays w [] [] []) xs some path (refl, refl, refl)) (live-doubler s path (search rules))
+    both (with-doubler s c.bare.ensures (search rules))
