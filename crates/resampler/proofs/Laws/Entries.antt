@@ -1,8 +1,7 @@
--- Which entries are live, for either direction; the loop that clears the others: at each turn what is kept and cleared
--- and the zeros to come are the whole; and whether the others are zero, array by array. Assumes nothing.
-use Rattle.std.specs.Prelude.{if◌then◌else◌}
+-- Which entries are live; that zeros written behind them leave the record that is meant; and whether the others are zero, array by
+-- array. Assumes nothing.
 use mathlib.Core.Path.{◌≡◌, refl, sym, ◌∙◌}
-use mathlib.Core.Bool.{Bool, true, false, ◌&&◌}
+use mathlib.Core.Bool.{Bool, true, ◌&&◌}
 use mathlib.Core.List.{List, [], append-nil}
 use Prim.Native.Nat.{ℕ, ◌-◌, ◌≤◌}
 use native.Mathlib.Omega.{arith}
@@ -10,11 +9,10 @@ use borrow.Author.Tests.{leb-true}
 use borrow.Rule.Slice.PartMut.{mid_of, post_of, put_mid, mid_len}
 use lib.Dec.{leb}
 use lib.IntN.{ℤ, pos}
-use lib.ListN.{length, take, drop, replicate, length-take, length-drop}
+use lib.ListN.{length, take, drop, replicate, length-drop}
 use lib.Seq.{length-take-le}
 use Rattle.filters.specs.Lists.{padded, every}
-use Rattle.filters.specs.Stage.DownFir.{down_1_3, down_1_4, down_1_6}
-use Rattle.filters.proofs.Laws.Lists.{drop-none, padded-length}
+use Rattle.filters.proofs.Laws.Lists.{drop-none}
 use Rattle.resampler.specs.declared.Record.{Record}
 use Rattle.resampler.specs.Pairs.{Pair, pair, supported, rate_id, delay, delay_matrix_enc, delay_matrix_dec, path, filter}
 use Rattle.resampler.specs.Record.{pair_of, living, live, live_delay, dead, keeping, record_of, cleaned}
@@ -23,17 +21,6 @@ use Rattle.resampler.proofs.Laws.Pairs.{of-each}
 use Rattle.resampler.proofs.Laws.Scan.{every-five}
 
 -- ---- live entries
-
--- a path depends on the rates only
-pub path-same : (d i o : ℕ) → path (pair d i o) ≡ path (pair 0 i o)
-unfolding path filter
-path-same d i o = refl
-
--- the three smallest ratios have one order
-pub order_least : (a b : Bool) → (if a then down_1_3 else if b then down_1_4 else down_1_6).order ≡ 36
-order_least true b = refl
-order_least false true = refl
-order_least false false = refl
 
 pub delay-few : (p : Pair) → supported p ≡ true → delay p ≤ 48
 unfolding delay delay_matrix_enc delay_matrix_dec rate_id
@@ -70,21 +57,6 @@ cleaned-is s (d, m, a, f) l = λ i. record {
 -- the lengths of a record's arrays
 abbrev pub Whole : Record → Type 0
 Whole s = (length s.doubler ≡ 6) × (length s.samples ≡ 8) × (length s.ar2 ≡ 2) × (length s.fir ≡ 36) × (length s.delay ≡ 48)
-
-kept-length : (m k : ℕ) (xs : List ℤ) → length xs ≡ m → length (padded m (take k xs)) ≡ m
-kept-length m k xs h = padded-length m (take k xs) (omega (arith, length-take k xs))
-
--- cleaning changes none of them
-pub cleaned-whole : (s : Record) → Whole s → Whole (cleaned s)
-unfolding live live_delay keeping record_of cleaned
-cleaned-whole s w =
-    let n = living (path (pair_of s)) in (
-      kept-length 6 n.doubler s.doubler w.0,
-      kept-length 8 n.samples s.samples w.1,
-      kept-length 2 n.ar2 s.ar2 w.2,
-      kept-length 36 n.fir s.fir w.3,
-      kept-length 48 (delay (pair_of s)) s.delay w.4,
-    )
 
 -- ---- clearing
 

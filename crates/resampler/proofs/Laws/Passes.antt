@@ -5,8 +5,7 @@ use mathlib.Core.List.{List, [], ◌∷◌}
 use Prim.Native.Nat.{ℕ, ◌*◌, ◌<◌}
 use lib.IntN.{ℤ}
 use native.Mathlib.Omega.{arith}
-use lib.ListN.{length, take-append-drop}
-use Rattle.filters.proofs.Laws.Lengths.{iir_fir_next-length, ar2_end-length}
+use lib.ListN.{take-append-drop}
 use Rattle.filters.proofs.Laws.Run.{end-keeps}
 use Rattle.stages.proofs.Laws.Pass.{pass-whole}
 use Rattle.stages.proofs.Laws.Parts.{up2-nothing, up2-parts}
@@ -105,16 +104,3 @@ module _ (p : Pair) (w : Words) (xs : List ℤ) where
       let (o, n) = pass-part (batch_out p) (batch_next p) (down_batch g r) (down_next g) (λ v. (v.ar2, v.fir)) same (10 * p.inKhz) w xs in
       let (d, s) = still e k in
       rw same-rates (o, λ i. arrays (d i) (s i) (n i).0 (n i).1)
-
--- ---- how many words a stage with a reader leaves
-
-pub iir_fir_end-length : (r : Rates) (w x xs : List ℤ) {d y : List ℤ} → length w ≡ 6 → length x ≡ 8 → (d, y) ≡ iir_fir_end r (w, x) xs
-    → (length d ≡ 6) × (length y ≡ 8)
-unfolding iir_fir_end pass_end
-iir_fir_end-length r w x xs h k e =
-    let Six : List ℤ × List ℤ → Type 0 = λ v. (length v.0 ≡ 6) × (length v.1 ≡ 8) in
-    subst Six (sym e) (end-keeps iir_fir_next Six (λ v ys l. iir_fir_next-length v ys l.0 l.1) (w, x) _ (h, k))
-
-pub down_end-length : (g : Filter) (r : Rates) (a f xs : List ℤ) → length a ≡ 2 → length (down_end g r (a, f) xs).0 ≡ 2
-unfolding down_end down_next pass_end
-down_end-length g r a f xs h = end-keeps (down_next g) (λ v. length v.0 ≡ 2) (λ v ys l. ar2_end-length g.coefs v.0 ys l) (a, f) _ h
