@@ -20,8 +20,8 @@ struct Live {
 }
 
 // The record with its dead entries zero.
-pub fn cleaned(known: Known) -> Record
-    ensures { result ≡ Records.cleaned known.state }
+pub fn cleaned(known: &Known) -> Record
+    ensures { result ≡ Records.cleaned known.now.state }
 {
     let n = living(known);
     let mut s = known.state;
@@ -34,8 +34,8 @@ pub fn cleaned(known: Known) -> Record
 }
 
 // Whether the dead entries are zero.
-pub fn dead_zero(known: Known) -> bool
-    ensures { result ≡ every zero? (Records.dead known.state) }
+pub fn dead_zero(known: &Known) -> bool
+    ensures { result ≡ every zero? (Records.dead known.now.state) }
 {
     let n = living(known);
     let s = known.state;
@@ -48,8 +48,8 @@ pub fn dead_zero(known: Known) -> bool
 }
 
 // Which entries a pair's path uses, and as many delay samples as its delay.
-fn living(known: Known) -> Live
-    ensures fact { let s = known.state in
+fn living(known: &Known) -> Live
+    ensures fact { let s = known.now.state in
         let n = Records.living (path (Records.pair_of s)) in
         (result.doubler ≡ n.doubler) × (result.samples ≡ n.samples) × (result.ar2 ≡ n.ar2) × (result.fir ≡ n.fir) × (result.delay ≡ Pairs.delay (Records.pair_of s)) }
     ensures bound { (result.doubler ≤ 6) × (result.samples ≤ 8) × (result.ar2 ≤ 2) × (result.fir ≤ 36) × (result.delay ≤ 48) }

@@ -1,6 +1,6 @@
 // Opening a line. From silk_resampler_init of silk/resampler/mod.rs. Meaning: specs/Entry.antt. Unlike the Rust, a pair that is
 // not supported is refused, and the record is returned by value.
-ghost use Rattle.std.specs.Prelude.{◌≡◌, unwrap_or};
+ghost use Rattle.std.specs.Prelude.{◌≡◌, Err, unwrap_or};
 ghost use Rattle.stages.specs.Outcome.{outcome, answer_of};
 ghost use Rattle.resampler.specs.Pairs.{pair};
 ghost use Rattle.resampler.specs.Record as Records;
@@ -42,17 +42,23 @@ pub fn fresh(direction: u8, inKhz: u8, outKhz: u8) -> Record
     }
 }
 
+// What a refused opening or resuming answers, with the blank record.
+pub fn refused(refusal: Refusal) -> Answered<Record>
+    ensures { (result.answer ≡ Err refusal) × (result.state ≡ Records.blank) }
+{
+    Answered::refused(refusal, fresh(0, 0, 0))
+}
+
 // Takes the rates in Hz, and whether the direction is the encoder's, which any number but 0 says.
 pub fn silk_resampler_init(Fs_Hz_in: i32, Fs_Hz_out: i32, forEnc: i32) -> Answered<Record>
     ensures { outcome (answer_of result.answer) result.state tt ≡ Entry.open_outcome Fs_Hz_in Fs_Hz_out forEnc }
 {
-    let blank = fresh(0, 0, 0);
     let direction = direction_of(forEnc);
     let (Some(inKhz), Some(outKhz)) = (khz(Fs_Hz_in), khz(Fs_Hz_out)) else {
-        return Answered::refused(Refusal::PairNotListed, blank);
+        return refused(Refusal::PairNotListed);
     };
     if !pairs::supported(direction, inKhz, outKhz) {
-        return Answered::refused(Refusal::PairNotListed, blank);
+        return refused(Refusal::PairNotListed);
     }
     Answered::done(0, fresh(direction as u8, inKhz as u8, outKhz as u8))
 }

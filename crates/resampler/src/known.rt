@@ -33,16 +33,16 @@ impl Known {
     }
 
     // How many samples of the input it carries over.
-    pub fn delay(self) -> usize
-        ensures { result ≡ Pairs.delay (Records.pair_of self.state) }
+    pub fn delay(&self) -> usize
+        ensures { result ≡ Pairs.delay (Records.pair_of self.now.state) }
     {
-        let s = self.state;
+        let s = &self.state;
         pairs::delay(s.direction as usize, s.inKhz as usize, s.outKhz as usize)
     }
 
     // What a stage that reads is told of the pair.
-    pub fn rates(self) -> Rates
-        ensures { result ≡ rates_of (Records.pair_of self.state) }
+    pub fn rates(&self) -> Rates
+        ensures { result ≡ rates_of (Records.pair_of self.now.state) }
     {
         let inKhz = self.state.inKhz as usize;
         let outKhz = self.state.outKhz as usize;
@@ -54,8 +54,8 @@ impl Known {
     }
 
     // The down filter of a lower rate.
-    pub fn filter(self) -> Filter<'static>
-        ensures { filter_of result.order result.coefs.now ≡ Pairs.filter (Records.pair_of self.state) }
+    pub fn filter(&self) -> Filter<'static>
+        ensures { filter_of result.order result.coefs.now ≡ Pairs.filter (Records.pair_of self.now.state) }
     {
         filter::at(self.state.inKhz as usize, self.state.outKhz as usize)
     }

@@ -18,7 +18,7 @@ pub fn park(s: Record, block: &mut [u8]) -> Answered<Record>
     if block.len() != 512 {
         return Answered::refused(Refusal::NotABlock, s);
     }
-    put_body(block, entries::cleaned(known));
+    put_body(block, entries::cleaned(&known));
     seal(block);
     Answered::done(0, s)
 }

@@ -19,7 +19,7 @@ pub fn silk_resampler(s: Record, out: &mut [i16], input: &[i16]) -> Answered<Rec
     let Some(known) = Known::of(s) else {
         return Answered::refused(Refusal::NoSupportedPair, s);
     };
-    if let Some(refusal) = refusal_of(known, input.len(), out.len()) {
+    if let Some(refusal) = refusal_of(&known, input.len(), out.len()) {
         return Answered::refused(refusal, s);
     }
     let written = input.len() / s.inKhz as usize * s.outKhz as usize;
@@ -28,8 +28,8 @@ pub fn silk_resampler(s: Record, out: &mut [i16], input: &[i16]) -> Answered<Rec
 }
 
 // What n samples of input and this room are refused for.
-fn refusal_of(known: Known, n: usize, room: usize) -> Option<Refusal>
-    ensures { row result ≡ Entry.resample_row (pair_of known.state) n room }
+fn refusal_of(known: &Known, n: usize, room: usize) -> Option<Refusal>
+    ensures { row result ≡ Entry.resample_row (pair_of known.now.state) n room }
 {
     let inKhz = known.state.inKhz as usize;
     let outKhz = known.state.outKhz as usize;

@@ -13,20 +13,19 @@ use stages::{Answered, Refusal};
 pub fn resume(block: &[u8]) -> Answered<Record>
     ensures { outcome (answer_of result.answer) result.state tt ≡ Block.resume_outcome block.now }
 {
-    let blank = init::fresh(0, 0, 0);
     let Ok(block) = <&[u8; 512]>::try_from(block) else {
-        return Answered::refused(Refusal::NotABlock, blank);
+        return init::refused(Refusal::NotABlock);
     };
     if let Some(refusal) = seal_refusal(block) {
-        return Answered::refused(refusal, blank);
+        return init::refused(refusal);
     }
     let Some(known) = Known::of(record_in(block)) else {
-        return Answered::refused(Refusal::BlockPairUnsupported, blank);
+        return init::refused(Refusal::BlockPairUnsupported);
     };
-    if entries::dead_zero(known) && pads_zero(block) {
+    if entries::dead_zero(&known) && pads_zero(block) {
         Answered::done(0, known.state)
     } else {
-        Answered::refused(Refusal::DeadNotZero, blank)
+        init::refused(Refusal::DeadNotZero)
     }
 }
 

@@ -6,7 +6,7 @@ use Rattle.resampler.proofs.entries.cleaned.Goals as goal
 
 pub returns : goal.returns
 returns c =
-    let s = c.args.known.state in
+    let s = c.args.known.now.state in
     let (d, m, a, f, l) = c.living-n.ensures.fact in
     let (db, mb, ab, fb, lb) = c.living-n.ensures.bound in
     cleaned-is s (

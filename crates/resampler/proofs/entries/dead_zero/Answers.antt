@@ -15,7 +15,7 @@ use Rattle.resampler.proofs.entries.dead_zero.Goals as goal
 
 pub returns : goal.returns
 returns c =
-    let s = c.args.known.state in
+    let s = c.args.known.now.state in
     let n = c.living-n.result in
     let (d, m, a, f, l) = c.living-n.ensures.fact in
     dead-is s (

@@ -32,13 +32,11 @@ returns-in_default c =
     let p = asked c.args.Fs_Hz_in c.args.Fs_Hz_out c.args.forEnc in
     let i = rw (to_z-of_z w32 c.args.Fs_Hz_in c.ranges.Fs_Hz_in) at c.khz.ensures in
     let o = rw (to_z-of_z w32 c.args.Fs_Hz_out c.ranges.Fs_Hz_out) at c.khz-2.ensures in
-    let (answer, state) = c.refused.ensures in
-    let state = state ∙ c.fresh-blank.ensures in
     elim c.in_default.branch [
       | in_default-via-in-Some+in_default w ↦ let none = rw w.in_default.is-1 at o in
-          ruled-refused blank tt _ PairNotListed (unlisted p (none-out p (sym none))) (answer, state)
+          ruled-refused blank tt _ PairNotListed (unlisted p (none-out p (sym none))) c.refused.ensures
       | in_default-via-in_default w ↦ let none = rw w.in_default.is-0 at i in
-          ruled-refused blank tt _ PairNotListed (unlisted p (none-in p (sym none))) (answer, state)
+          ruled-refused blank tt _ PairNotListed (unlisted p (none-in p (sym none))) c.refused.ensures
     ]
 
 -- the pair that is tested is the one asked for
@@ -55,7 +53,7 @@ returns-then-not-supported c =
     let is = given c.args.Fs_Hz_in c.args.Fs_Hz_out c.args.forEnc d i o in
     let p = asked c.args.Fs_Hz_in c.args.Fs_Hz_out c.args.forEnc in
     let no = sym (ap supported is) ∙ sym c.if-not-supported.ensures in
-    ruled-refused blank tt _ PairNotListed (unlisted p no) (c.refused-then-not-supported.ensures.0, c.refused-then-not-supported.ensures.1 ∙ c.fresh-blank.ensures)
+    ruled-refused blank tt _ PairNotListed (unlisted p no) c.refused-then-not-supported.ensures
 
 few : (c : goal.Else-not-supported) → let p = pair c.direction_of-direction.result c.in-Some-Some.inKhz c.in-Some-Some.outKhz in supported p ≡ true
 few c = sym c.if-not-supported.ensures

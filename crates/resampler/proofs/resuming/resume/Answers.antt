@@ -18,8 +18,7 @@ pub returns-in_default : goal.returns-in_default
 unfolding resume_outcome blank
 returns-in_default c =
     let e : 8 ≡ resume_row c.args.block.now = sym (row-length c.args.block.now c.in_default.ensures.1) in
-    let (answer, state) = c.refused.ensures in
-    ruled-refused blank tt _ NotABlock e (answer, state ∙ c.fresh-blank.ensures)
+    ruled-refused blank tt _ NotABlock e c.refused.ensures
 
 pub returns-in-Some : goal.returns-in-Some
 unfolding resume_outcome blank
@@ -29,8 +28,7 @@ returns-in-Some c =
     let room : length b ≡ 512 = ap length chunk.same ∙ chunk.long in
     let refusal = c.in-Some.refusal in
     let e : row_of refusal ≡ resume_row b = sym (row-seal b room _ c.in-Some.ensures (refusal-is-no-0 refusal)) in
-    let (answer, state) = c.refused-in-Some.ensures in
-    ruled-refused blank tt _ refusal e (answer, state ∙ c.fresh-blank.ensures) ∙ ap resume_outcome chunk.same
+    ruled-refused blank tt _ refusal e c.refused-in-Some.ensures ∙ ap resume_outcome chunk.same
 
 pub returns-in_default-of : goal.returns-in_default-of
 unfolding resume_outcome blank
@@ -40,8 +38,7 @@ returns-in_default-of c =
     let room : length b ≡ 512 = ap length chunk.same ∙ chunk.long in
     let no = rw c.record_in.ensures at c.in_default-of.ensures in
     let e : 11 ≡ resume_row b = sym (row-pair b room _ c.in_default-seal_refusal.ensures refl no) in
-    let (answer, state) = c.refused-in_default-of.ensures in
-    ruled-refused blank tt _ BlockPairUnsupported e (answer, state ∙ c.fresh-blank.ensures) ∙ ap resume_outcome chunk.same
+    ruled-refused blank tt _ BlockPairUnsupported e c.refused-in_default-of.ensures ∙ ap resume_outcome chunk.same
 
 pub returns-then-pads_zero : goal.returns-then-pads_zero
 unfolding resume_outcome blank
@@ -71,5 +68,4 @@ returns-else-dead_zero c =
       | else-dead_zero-via-else-dead_zero w ↦ let zeros = rw known at w.if-dead_zero.ensures in λ i. sym zeros i && pads
     ] in
     let e : 12 ≡ resume_row b = sym (row-dead b room _ c.in_default-seal_refusal.ensures refl yes all) in
-    let (answer, state) = c.refused-else-dead_zero.ensures in
-    ruled-refused blank tt _ DeadNotZero e (answer, state ∙ c.fresh-blank.ensures) ∙ ap resume_outcome chunk.same
+    ruled-refused blank tt _ DeadNotZero e c.refused-else-dead_zero.ensures ∙ ap resume_outcome chunk.same

@@ -5,7 +5,7 @@ use Rattle.resampler.proofs.Laws.Pairs.{small}
 use Rattle.resampler.proofs.known.Known.filter.Goals as goal
 
 pub at-requires : goal.at-requires
-at-requires c = let (d, i, j, o, q) = small _ c.args.self.supported in (j, q)
+at-requires c = let (d, i, j, o, q) = small _ c.args.self.now.supported in (j, q)
 
 pub returns : goal.returns
 unfolding filter
