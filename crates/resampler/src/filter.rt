@@ -1,55 +1,10 @@
 // The six down filters, by the ratio of the rates. Meaning: specs/Pairs.antt.
 ghost use Rattle.std.specs.Prelude.{◌≡◌, ◌≤◌};
-ghost use Rattle.filters.specs.Stage.DownFir.{Fitting, filter_of};
+ghost use Rattle.filters.specs.Stage.DownFir.{filter_of};
 ghost use Rattle.resampler.specs.Pairs as Pairs;
 ghost use Rattle.resampler.specs.Pairs.{pair};
 
-use stages::rom;
-
-// A table, for an order, and how many rows it has.
-#[derive(Clone, Copy)]
-pub struct Filter<'a> {
-    pub coefs: &'a [i64],
-    pub order: usize,
-    pub rows: usize,
-    ghost fitting: { Fitting order rows coefs.now },
-}
-
-const DOWN_3_4: Filter<'static> = Filter {
-    coefs: &rom::silk_Resampler_3_4_COEFS,
-    order: 18,
-    rows: 3,
-};
-
-const DOWN_2_3: Filter<'static> = Filter {
-    coefs: &rom::silk_Resampler_2_3_COEFS,
-    order: 18,
-    rows: 2,
-};
-
-const DOWN_1_2: Filter<'static> = Filter {
-    coefs: &rom::silk_Resampler_1_2_COEFS,
-    order: 24,
-    rows: 1,
-};
-
-const DOWN_1_3: Filter<'static> = Filter {
-    coefs: &rom::silk_Resampler_1_3_COEFS,
-    order: 36,
-    rows: 1,
-};
-
-const DOWN_1_4: Filter<'static> = Filter {
-    coefs: &rom::silk_Resampler_1_4_COEFS,
-    order: 36,
-    rows: 1,
-};
-
-const DOWN_1_6: Filter<'static> = Filter {
-    coefs: &rom::silk_Resampler_1_6_COEFS,
-    order: 36,
-    rows: 1,
-};
+use stages::{DOWN_1_2, DOWN_1_3, DOWN_1_4, DOWN_1_6, DOWN_2_3, DOWN_3_4, Filter};
 
 // The filter of out to in; the direction does not matter.
 pub fn at(inKhz: usize, outKhz: usize) -> Filter<'static>

@@ -5,9 +5,8 @@ ghost use Rattle.resampler.specs.Pairs as Pairs;
 ghost use Rattle.resampler.specs.Record as Records;
 ghost use Rattle.resampler.specs.Resample.{rates_of};
 
-use crate::filter::{self, Filter};
-use crate::{Record, pairs};
-use stages::Rates;
+use crate::{Record, filter, pairs};
+use stages::{Filter, Rates};
 
 // A record of a supported pair.
 #[derive(Clone, Copy)]

@@ -92,18 +92,9 @@ fn lowered(p: Parts<'_>, out: &mut [i16]) -> Record
     let ar2 = s.ar2;
     let fir = s.fir;
     let given = DownWords { ar2, fir };
-    let a = stages::silk_resampler_private_down_FIR(
-        r, f.coefs, f.order, f.rows, given, out, p.first,
-    );
-    let b = stages::silk_resampler_private_down_FIR(
-        r,
-        f.coefs,
-        f.order,
-        f.rows,
-        a.words,
-        &mut out[r.outKhz..],
-        p.rest,
-    );
+    let a = stages::silk_resampler_private_down_FIR(r, f, given, out, p.first);
+    let b =
+        stages::silk_resampler_private_down_FIR(r, f, a.words, &mut out[r.outKhz..], p.rest);
     let DownWords { ar2, fir } = b.words;
     Record {
         ar2,

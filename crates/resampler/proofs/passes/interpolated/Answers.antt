@@ -21,7 +21,7 @@ silk_resampler_private_IIR_FIR-a-requires c =
     let (steady, few) = steady-up (pair_of p.known.state) p.known.supported c.requires.path in
     let steady : Steady (2 * r.inKhz) r = rw e steady in
     let t = takes p.known.state e p.one p.whole c.requires.room in
-    record { steady = (steady, rw e few, search rules, search rules); in_khz_len = (first-whole r steady.some t, first-room r steady.some t) }
+    record { steady = (steady, rw e few); milliseconds = (first-whole r steady.some t, first-room r steady.some t) }
 
 pub silk_resampler_private_IIR_FIR-b-requires : goal.silk_resampler_private_IIR_FIR-b-requires
 silk_resampler_private_IIR_FIR-b-requires c =
@@ -31,7 +31,7 @@ silk_resampler_private_IIR_FIR-b-requires c =
     let (steady, few) = steady-up (pair_of p.known.state) p.known.supported c.requires.path in
     let steady : Steady (2 * r.inKhz) r = rw e steady in
     let t = takes p.known.state e p.one p.whole c.requires.room in
-    record { steady = (steady, rw e few, search rules, search rules); in_khz_len = (t.whole, rest-room r steady.some t c.silk_resampler_private_IIR_FIR-a.new.out (search rules)) }
+    record { steady = (steady, rw e few); milliseconds = (t.whole, rest-room r steady.some t c.silk_resampler_private_IIR_FIR-a.new.out (search rules)) }
 
 pub returns : goal.returns
 unfolding unused

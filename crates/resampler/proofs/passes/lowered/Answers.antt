@@ -21,7 +21,7 @@ silk_resampler_private_down_FIR-a-requires c =
     let (steady, few) = steady-down (pair_of p.known.state) _ p.known.supported c.requires.path in
     let steady : Steady r.inKhz r = rw e steady in
     let t = takes p.known.state e p.one p.whole c.requires.room in
-    record { fitting = (c.filter-f.result.fitting, steady, rw e few, search rules); in_khz_len = (first-whole r steady.some t, first-room r steady.some t) }
+    record { steady = (steady, rw e few); milliseconds = (first-whole r steady.some t, first-room r steady.some t) }
 
 pub silk_resampler_private_down_FIR-b-requires : goal.silk_resampler_private_down_FIR-b-requires
 silk_resampler_private_down_FIR-b-requires c =
@@ -31,7 +31,7 @@ silk_resampler_private_down_FIR-b-requires c =
     let (steady, few) = steady-down (pair_of p.known.state) _ p.known.supported c.requires.path in
     let steady : Steady r.inKhz r = rw e steady in
     let t = takes p.known.state e p.one p.whole c.requires.room in
-    record { fitting = (c.filter-f.result.fitting, steady, rw e few, search rules); in_khz_len = (t.whole, rest-room r steady.some t c.silk_resampler_private_down_FIR-a.new.out (search rules)) }
+    record { steady = (steady, rw e few); milliseconds = (t.whole, rest-room r steady.some t c.silk_resampler_private_down_FIR-a.new.out (search rules)) }
 
 pub returns : goal.returns
 unfolding unused
@@ -49,4 +49,4 @@ returns c =
     let b = c.silk_resampler_private_down_FIR-b in
     let both = twice-staged r steady.some t (down_pass g r) (down_end g r) (down_pass-length r steady.some g) c.silk_resampler_private_down_FIR-a.ensures.staged b.ensures.staged in
     both-staged s (λ w. arrays [] [] w.0 w.1) (down_pass g r) (down_end g r) (λ w xs. lowered (pair_of s) (arrays [] [] w.0 w.1) xs path e (refl, refl))
-    (live-down s g path (search rules)) both (with-down s c.bare.ensures _ (search rules) b.ensures.fir_value)
+    (live-down s g path (search rules)) both (with-down s c.bare.ensures _ (search rules) b.ensures.dead)
