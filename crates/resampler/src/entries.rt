@@ -8,6 +8,7 @@ ghost use Rattle.resampler.specs.Block.{zero?};
 
 use crate::Record;
 use crate::known::Known;
+use crate::path::Kind;
 
 // How many entries of each array are live.
 #[derive(Clone, Copy)]
@@ -54,8 +55,6 @@ fn living(known: &Known) -> Live
         (result.doubler ≡ n.doubler) × (result.samples ≡ n.samples) × (result.ar2 ≡ n.ar2) × (result.fir ≡ n.fir) × (result.delay ≡ Pairs.delay (Records.pair_of s)) }
     ensures bound { (result.doubler ≤ 6) × (result.samples ≤ 8) × (result.ar2 ≤ 2) × (result.fir ≤ 36) × (result.delay ≤ 48) }
 {
-    let inKhz = known.state.inKhz as usize;
-    let outKhz = known.state.outKhz as usize;
     let none = Live {
         doubler: 0,
         samples: 0,
@@ -63,21 +62,18 @@ fn living(known: &Known) -> Live
         fir: 0,
         delay: known.delay(),
     };
-    if outKhz == inKhz {
-        none
-    } else if outKhz == 2 * inKhz {
-        Live { doubler: 6, ..none }
-    } else if inKhz < outKhz {
-        Live {
+    match known.kind() {
+        Kind::Copy => none,
+        Kind::Doubler => Live { doubler: 6, ..none },
+        Kind::Interpolator => Live {
             doubler: 6,
             samples: 8,
             ..none
-        }
-    } else {
-        Live {
+        },
+        Kind::Down => Live {
             ar2: 2,
             fir: known.filter().order,
             ..none
-        }
+        },
     }
 }

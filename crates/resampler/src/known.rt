@@ -1,10 +1,12 @@
 // Records whose pair is supported: what a call, parking and resuming work on. Meaning: specs/Pairs.antt, specs/Record.antt.
 ghost use Rattle.std.specs.Prelude.{◌≡◌, true, false, MatchOption};
 ghost use Rattle.filters.specs.Stage.DownFir.{filter_of};
+ghost use Rattle.resampler.specs.Kinds.{Is};
 ghost use Rattle.resampler.specs.Pairs as Pairs;
 ghost use Rattle.resampler.specs.Record as Records;
 ghost use Rattle.resampler.specs.Resample.{rates_of};
 
+use crate::path::{self, Kind};
 use crate::{Record, filter, pairs};
 use stages::{Filter, Rates};
 
@@ -50,6 +52,12 @@ impl Known {
             outKhz,
             increment: pairs::increment(inKhz, outKhz),
         }
+    }
+
+    pub fn kind(&self) -> Kind
+        ensures { Is result (Records.pair_of self.now.state) }
+    {
+        path::at(self.state.inKhz as usize, self.state.outKhz as usize)
     }
 
     // The down filter of a lower rate.

@@ -10,6 +10,7 @@ mod known;
 pub mod pairs;
 mod parking;
 mod passes;
+mod path;
 mod resample;
 mod resuming;
 

@@ -4,6 +4,8 @@ ghost use Rattle.std.specs.Prelude.{◌≡◌, true, ◌+◌, ◌^◌, ◌<◌, 
 ghost use Rattle.resampler.specs.Pairs as Pairs;
 ghost use Rattle.resampler.specs.Pairs.{pair, rate_id, path, up2x, raised};
 
+use crate::path::{self, Kind};
+
 // The delays, in samples of the input: a row for each rate in, a column for each rate out. `tied` proves by computation that
 // each matrix is the definition's.
 
@@ -85,13 +87,10 @@ fn doubled(inKhz: usize, outKhz: usize) -> usize
     requires { inKhz ≤ 48 }
     ensures { (result ≡ 2 ^ up2x (path (pair 0 inKhz outKhz))) × (0 < result) × (result ≤ 2) }
 {
-    if outKhz == inKhz {
-        return 1;
+    match path::at(inKhz, outKhz) {
+        Kind::Interpolator => 2,
+        _ => 1,
     }
-    if outKhz == 2 * inKhz {
-        return 1;
-    }
-    if inKhz < outKhz { 2 } else { 1 }
 }
 
 // How far apart two outputs are read, in 65536ths of a sample.

@@ -2,12 +2,14 @@
 // specs/Resample.antt. The path is picked once, its stage runs twice on the words alone, and the record is made once, with the
 // path's words moved on and all others zero.
 ghost use Rattle.std.specs.Prelude.{◌≡◌, [], ◌*◌, ◌%◌, ◌≤◌, length};
-ghost use Rattle.resampler.specs.Pairs as Pairs;
+ghost use Rattle.resampler.specs.declared.path.Kind.TheVariants.{Copy, Doubler, Interpolator, Down};
+ghost use Rattle.resampler.specs.Kinds.{Is};
 ghost use Rattle.resampler.specs.Record.{pair_of, arrays, keeping};
 ghost use Rattle.resampler.specs.Resample.{room_of, Passed};
 
 use crate::Record;
 use crate::known::Known;
+use crate::path::Kind;
 use stages::{DownWords, IirFirWords};
 
 // What a call filters, for a record: a millisecond, and whole ones behind it; a pass each.
@@ -35,7 +37,7 @@ fn bare(s: Record) -> Record
 
 // An equal rate: the samples as they are.
 fn copied(p: Parts<'_>, out: &mut [i16]) -> Record
-    requires equal { p.known.state.outKhz ≡ p.known.state.inKhz }
+    requires kind { Is Copy (pair_of p.known.state) }
     requires room { room_of p.known.state p.rest.now ≤ length out.old }
     ensures { Passed p.entry.known.state p.entry.first.now p.entry.rest.now out.old out.new result }
 {
@@ -48,7 +50,7 @@ fn copied(p: Parts<'_>, out: &mut [i16]) -> Record
 
 // Twice the rate.
 fn doubled(p: Parts<'_>, out: &mut [i16]) -> Record
-    requires double { p.known.state.outKhz ≡ 2 * p.known.state.inKhz }
+    requires kind { Is Doubler (pair_of p.known.state) }
     requires room { room_of p.known.state p.rest.now ≤ length out.old }
     ensures { Passed p.entry.known.state p.entry.first.now p.entry.rest.now out.old out.new result }
 {
@@ -61,7 +63,7 @@ fn doubled(p: Parts<'_>, out: &mut [i16]) -> Record
 
 // Any other higher rate.
 fn interpolated(p: Parts<'_>, out: &mut [i16]) -> Record
-    requires path { Pairs.path (pair_of p.known.state) ≡ Pairs.interpolator }
+    requires kind { Is Interpolator (pair_of p.known.state) }
     requires room { room_of p.known.state p.rest.now ≤ length out.old }
     ensures { Passed p.entry.known.state p.entry.first.now p.entry.rest.now out.old out.new result }
 {
@@ -82,7 +84,7 @@ fn interpolated(p: Parts<'_>, out: &mut [i16]) -> Record
 
 // A lower rate.
 fn lowered(p: Parts<'_>, out: &mut [i16]) -> Record
-    requires path { Pairs.path (pair_of p.known.state) ≡ Pairs.down (Pairs.filter (pair_of p.known.state)) }
+    requires kind { Is Down (pair_of p.known.state) }
     requires room { room_of p.known.state p.rest.now ≤ length out.old }
     ensures { Passed p.entry.known.state p.entry.first.now p.entry.rest.now out.old out.new result }
 {
@@ -108,15 +110,10 @@ pub fn both(p: Parts<'_>, out: &mut [i16]) -> Record
     requires { room_of p.known.state p.rest.now ≤ length out.old }
     ensures { Passed p.entry.known.state p.entry.first.now p.entry.rest.now out.old out.new result }
 {
-    let inKhz = p.known.state.inKhz as usize;
-    let outKhz = p.known.state.outKhz as usize;
-    if outKhz == inKhz {
-        copied(p, out)
-    } else if outKhz == 2 * inKhz {
-        doubled(p, out)
-    } else if inKhz < outKhz {
-        interpolated(p, out)
-    } else {
-        lowered(p, out)
+    match p.known.kind() {
+        Kind::Copy => copied(p, out),
+        Kind::Doubler => doubled(p, out),
+        Kind::Interpolator => interpolated(p, out),
+        Kind::Down => lowered(p, out),
     }
 }

@@ -1,32 +1,25 @@
--- `resampler::pairs::doubled` meets its contract: each test is the path's.
+-- `resampler::pairs::doubled` meets its contract: only the interpolator reads doubled samples.
 -- Assumes nothing.
-use mathlib.Core.Path.{refl}
-use Prim.Native.Nat.{◌*◌}
+use mathlib.Core.Path.{◌≡◌, refl}
 use native.Mathlib.Omega.{arith}
-use borrow.Author.Tests.{eq-eqb, ne_eqb, lt-ltb, le-ltb}
-use Rattle.resampler.specs.Pairs.{path, up2x}
+use Rattle.resampler.specs.declared.path.Kind.{Kind}
+use Rattle.resampler.specs.declared.path.Kind.TheVariants.{Copy, Doubler, Interpolator, Down}
+use Rattle.resampler.specs.Kinds.{Is}
+use Rattle.resampler.specs.Pairs.{Pair, path, up2x}
 use Rattle.resampler.proofs.pairs.doubled.Goals as goal
 
-pub returns-then-outKhz-inKhz : goal.returns-then-outKhz-inKhz
-unfolding path up2x
-returns-then-outKhz-inKhz c = let a = c.before.args in (rw (eq-eqb a.outKhz a.inKhz c.if-outKhz-inKhz.true) refl, omega arith, omega arith)
+undoubled : (k : Kind) (p : Pair) → (k ≡ Interpolator → ⊥) → Is k p → up2x (path p) ≡ 0
+unfolding up2x
+undoubled = elim [
+  | Copy ↦ λ p n h. rw h.0 refl
+  | Doubler ↦ λ p n h. rw h.0 refl
+  | Interpolator ↦ λ p n h. absurd (n refl)
+  | Down ↦ λ p n h. rw h refl
+]
 
-pub returns-then-outKhz-inKhz-2 : goal.returns-then-outKhz-inKhz-2
-unfolding path up2x
-returns-then-outKhz-inKhz-2 c = let e = c.before in let a = e.before.args in (rw (ne_eqb a.outKhz a.inKhz e.if-outKhz-inKhz.false, eq-eqb a.outKhz (2 * a.inKhz) c.if-outKhz-inKhz-2.true) refl, omega arith, omega arith)
+pub returns-in-Interpolator : goal.returns-in-Interpolator
+unfolding up2x
+returns-in-Interpolator c = (rw c.in-Interpolator.ensures refl, omega arith, omega arith)
 
-pub returns-then-inKhz-outKhz : goal.returns-then-inKhz-outKhz
-unfolding path up2x
-returns-then-inKhz-outKhz c =
-    let d = c.before in
-    let e = d.before in
-    let a = e.before.args in
-    (rw (ne_eqb a.outKhz a.inKhz e.if-outKhz-inKhz.false, ne_eqb a.outKhz (2 * a.inKhz) d.if-outKhz-inKhz-2.false, lt-ltb a.inKhz a.outKhz c.if-inKhz-outKhz.true) refl, omega arith, omega arith)
-
-pub returns-else-inKhz-outKhz : goal.returns-else-inKhz-outKhz
-unfolding path up2x
-returns-else-inKhz-outKhz c =
-    let d = c.before in
-    let e = d.before in
-    let a = e.before.args in
-    (rw (ne_eqb a.outKhz a.inKhz e.if-outKhz-inKhz.false, ne_eqb a.outKhz (2 * a.inKhz) d.if-outKhz-inKhz-2.false, le-ltb a.inKhz a.outKhz c.if-inKhz-outKhz.false) refl, omega arith, omega arith)
+pub returns-in_default : goal.returns-in_default
+returns-in_default c = (rw (undoubled _ _ c.in_default.not-Interpolator c.at.ensures) refl, omega arith, omega arith)

@@ -11,7 +11,7 @@ use Rattle.resampler.specs.Resample.{made, rates_of}
 use Rattle.resampler.proofs.Laws.Live.{live-copy}
 use Rattle.resampler.proofs.Laws.Pairs.{small}
 use Rattle.resampler.proofs.Laws.Passes.{unused, copied}
-use Rattle.resampler.proofs.Laws.Paths.{path-copy, made-equal}
+use Rattle.resampler.proofs.Laws.Paths.{made-equal}
 use Rattle.resampler.proofs.Laws.Twice.{takes, copied-behind, twice-staged, both-staged}
 use Rattle.resampler.proofs.passes.copied.Goals as goal
 
@@ -24,12 +24,12 @@ returns c =
     let ys = c.args.p.rest.now in
     let before = c.args.out.now in
     let some : 0 < s.inKhz = omega (arith, (small p c.args.p.known.supported).1) in
-    let path = path-copy p c.requires.equal in
+    let (path, equal) = c.requires.kind in
     let t = takes s refl c.args.p.one c.args.p.whole c.requires.room in
     let none = arrays [] [] [] [] in
     let o = c.copy_from_slice.new.self ++ drop (length xs) before in
     let both =
-    twice-staged (rates_of p) some t {S = Unit {0}} (λ u zs. zs) (λ u zs. u) (λ u zs h. sym (made-equal p (length zs) h c.requires.equal)) {s = tt} {o = o}
+    twice-staged (rates_of p) some t {S = Unit {0}} (λ u zs. zs) (λ u zs. u) (λ u zs h. sym (made-equal p (length zs) h equal)) {s = tt} {o = o}
     (record { filled = ap (λ (z : List ℤ). z ++ drop (length xs) before) c.copy_from_slice.ensures.after; carried = refl }) (record { filled = refl; carried = refl }) in
     let long : s.outKhz ≤ length o =
     omega (arith, length-append c.copy_from_slice.new.self (drop (length xs) before), length-drop (length xs) before, ap length c.copy_from_slice.ensures.after, c.args.p.one, c.requires) in

@@ -18,7 +18,7 @@ silk_resampler_private_IIR_FIR-a-requires c =
     let p = c.args.p in
     let e = c.rates-r.ensures in
     let r = c.rates-r.result in
-    let (steady, few) = steady-up (pair_of p.known.state) p.known.supported c.requires.path in
+    let (steady, few) = steady-up (pair_of p.known.state) p.known.supported c.requires.kind in
     let steady : Steady (2 * r.inKhz) r = rw e steady in
     let t = takes p.known.state e p.one p.whole c.requires.room in
     record { steady = (steady, rw e few); milliseconds = (first-whole r steady.some t, first-room r steady.some t) }
@@ -28,7 +28,7 @@ silk_resampler_private_IIR_FIR-b-requires c =
     let p = c.args.p in
     let e = c.rates-r.ensures in
     let r = c.rates-r.result in
-    let (steady, few) = steady-up (pair_of p.known.state) p.known.supported c.requires.path in
+    let (steady, few) = steady-up (pair_of p.known.state) p.known.supported c.requires.kind in
     let steady : Steady (2 * r.inKhz) r = rw e steady in
     let t = takes p.known.state e p.one p.whole c.requires.room in
     record { steady = (steady, rw e few); milliseconds = (t.whole, rest-room r steady.some t c.silk_resampler_private_IIR_FIR-a.new.out (search rules)) }
@@ -40,11 +40,11 @@ returns c =
     let s = p.known.state in
     let e = c.rates-r.ensures in
     let r = c.rates-r.result in
-    let (steady, few) = steady-up (pair_of s) p.known.supported c.requires.path in
+    let (steady, few) = steady-up (pair_of s) p.known.supported c.requires.kind in
     let steady : Steady (2 * r.inKhz) r = rw e steady in
     let t = takes s e p.one p.whole c.requires.room in
     let both =
     twice-staged r steady.some t (iir_fir_pass r) (iir_fir_end r) (iir_fir_pass-length r steady.some)
     c.silk_resampler_private_IIR_FIR-a.ensures.staged c.silk_resampler_private_IIR_FIR-b.ensures.staged in
-    both-staged s (λ w. arrays w.0 w.1 [] []) (iir_fir_pass r) (iir_fir_end r) (λ w xs. interpolated (pair_of s) (arrays w.0 w.1 [] []) xs c.requires.path e (refl, refl))
-    (live-interpolator s c.requires.path (search rules) (search rules)) both (with-interpolator s c.bare.ensures (search rules) (search rules))
+    both-staged s (λ w. arrays w.0 w.1 [] []) (iir_fir_pass r) (iir_fir_end r) (λ w xs. interpolated (pair_of s) (arrays w.0 w.1 [] []) xs c.requires.kind e (refl, refl))
+    (live-interpolator s c.requires.kind (search rules) (search rules)) both (with-interpolator s c.bare.ensures (search rules) (search rules))
