@@ -25,7 +25,7 @@ silk_resampler_private_up2_HQ-doubler-requires c =
     let some : 0 < s.inKhz = omega (arith, (small p c.args.p.known.supported).1) in
     let t = takes s refl c.args.p.one c.args.p.whole c.requires.room in
     let n = length c.args.p.rest.now in
-    (search rules, omega (arith, rest-room (rates_of p) some t c.silk_resampler_private_up2_HQ-between.new.out (search rules), made-twice p n t.whole c.requires.kind.1))
+    omega (arith, rest-room (rates_of p) some t c.silk_resampler_private_up2_HQ-between.new.out (search rules), made-twice p n t.whole c.requires.kind.1)
 
 pub returns : goal.returns
 unfolding unused made
