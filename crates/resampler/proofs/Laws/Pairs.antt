@@ -6,7 +6,6 @@ use mathlib.Core.Logic.{◌⊎◌, inl, inr}
 use mathlib.Core.Bool.{Bool, true, false, ◌&&◌, ◌||◌}
 use mathlib.Core.List.{List, [], ◌∷◌}
 use Prim.Native.Nat.{ℕ, zero, suc, ◌+◌, ◌*◌, ◌/◌, ◌<◌, ◌≤◌}
-use native.Mathlib.Nat.{mul-le-mul_left, div-add-mod'}
 use native.Mathlib.Omega.{arith}
 use borrow.Author.Tests.{eqb-true, leb-true, ltb-true}
 use lib.Dec.{T, eqb, ltb, leb}
@@ -142,7 +141,3 @@ raised-more (suc k) outHz goal i = go (ltb (i * outHz / 65536) goal) refl (raise
 pub raised-four : (outHz goal i : ℕ) {a b c d : ℕ} → a ≡ raised 1 outHz goal i → b ≡ raised 1 outHz goal a → c ≡ raised 1 outHz goal b → d ≡ raised 1 outHz goal c
     → d ≡ raised 4 outHz goal i
 raised-four outHz goal i x y z w = w ∙ rw (z, y, x, raised-more 1 outHz goal i, raised-more 2 outHz goal i, raised-more 3 outHz goal i) refl
-
--- a quotient by a rate, of a number that is not too large
-pub quotient-small : (n d : ℕ) → 8000 ≤ d → n / d * 8000 ≤ n
-quotient-small n d h = let m = mul-le-mul_left (n / d) h in omega (arith, m, div-add-mod' n d)

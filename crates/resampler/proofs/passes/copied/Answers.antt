@@ -6,7 +6,7 @@ use Prim.Native.Nat.{◌<◌, ◌≤◌}
 use native.Mathlib.Omega.{arith}
 use lib.IntN.{ℤ}
 use lib.ListN.{length, drop, length-append, length-drop}
-use Rattle.resampler.specs.Record.{pair_of, arrays}
+use Rattle.resampler.specs.Record.{Words, pair_of, arrays}
 use Rattle.resampler.specs.Resample.{made, rates_of}
 use Rattle.resampler.proofs.Laws.Live.{live-copy}
 use Rattle.resampler.proofs.Laws.Pairs.{small}
@@ -26,7 +26,7 @@ returns c =
     let some : 0 < s.inKhz = omega (arith, (small p c.args.p.known.supported).1) in
     let (path, equal) = c.requires.kind in
     let t = takes s refl c.args.p.one c.args.p.whole c.requires.room in
-    let none = arrays [] [] [] [] in
+    let none : Words = arrays [] [] [] [] in
     let o = c.copy_from_slice.new.self ++ drop (length xs) before in
     let both =
     twice-staged (rates_of p) some t {S = Unit {0}} (λ u zs. zs) (λ u zs. u) (λ u zs h. sym (made-equal p (length zs) h equal)) {s = tt} {o = o}

@@ -4,11 +4,9 @@ use mathlib.Core.Path.{refl}
 use Prim.Native.Nat.{◌*◌, ◌/◌, ◌%◌}
 use native.Mathlib.Omega.{arith}
 use borrow.Author.Tests.{eq-eqb, ne_eqb, lt-ltb, le-ltb}
-use Rattle.resampler.specs.Record.{pair_of}
 use Rattle.resampler.specs.Resample.{made}
 use Rattle.resampler.specs.Entry.{resample_row}
 use Rattle.resampler.proofs.Laws.Pairs.{small}
-use Rattle.resampler.proofs.Laws.Rows.{made-small}
 use Rattle.resampler.proofs.resample.refusal_of.Goals as goal
 use Rattle.resampler.proofs.resample.refusal_of.Goals.{then-n-eq0-via-then-n-eq0, then-n-eq0-via-else-n-eq0+then-n-inKhz-ne0}
 
@@ -25,19 +23,12 @@ returns-then-n-eq0 c =
           rw (yes, ne_eqb c.args.n 0 w.if-n-eq0.false, ne_eqb (c.args.n % c.args.known.now.state.inKhz) 0 w.if-n-inKhz-ne0.true) refl
     ]
 
-pub overflow_mul-inKhz : goal.overflow_mul-inKhz
-overflow_mul-inKhz c = let (d, i, j, o, q) = small _ c.args.known.now.supported in record { fits = omega arith }
-
 pub returns-then-inKhz-n : goal.returns-then-inKhz-n
 unfolding resample_row
 returns-then-inKhz-n c =
     let a = c.args in
     let k = a.known.now.state.inKhz in
     rw (a.known.now.supported, ne_eqb a.n 0 c.if-n-eq0.false, eq-eqb (a.n % k) 0 c.if-n-inKhz-ne0.false, lt-ltb (1000 * k) a.n c.if-inKhz-n.true) refl
-
-pub overflow_mul-n : goal.overflow_mul-n
-overflow_mul-n c =
-    record { fits = omega (arith, made-small (pair_of c.args.known.now.state) c.args.n c.args.known.now.supported c.if-inKhz-n.false) }
 
 pub returns-then-room-n : goal.returns-then-room-n
 unfolding resample_row made
