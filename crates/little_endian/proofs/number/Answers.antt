@@ -2,7 +2,7 @@
 -- Assumes nothing.
 use Prim.Native.Nat.{◌+◌, ◌-◌}
 use native.Mathlib.Omega.{arith}
-use Rattle.little_endian.proofs.Laws.Bytes.{read-start, read-room, read-turn, read-end}
+use Rattle.little_endian.proofs.Laws.Bytes.{read-start, read-room, read-turn}
 use Rattle.little_endian.proofs.number.Goals as goal
 
 pub loop-i-init : goal.loop-i-init
@@ -20,6 +20,3 @@ pub loop-i-preserved : goal.loop-i-preserved
 loop-i-preserved c =
     let x = c.type_inv.block (c.args.at + (c.loop-i.i - 1)) in
     rw c.from.ensures (read-turn _ _ _ c.loop-i-test.true c.loop-i.invariant x.fits)
-
-pub returns : goal.returns
-returns c = read-end _ _ _ c.loop-i-test.false c.loop-i.invariant

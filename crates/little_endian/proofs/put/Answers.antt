@@ -6,7 +6,7 @@ use mathlib.Core.List.{List}
 use native.Mathlib.Omega.{arith}
 use lib.ListN.{length, take, drop, length-drop}
 use lib.Seq.{length-take-le}
-use Rattle.stages.proofs.Laws.Loop.{fill_start, fill_one}
+use Rattle.stages.proofs.Laws.Loop.{fill_one}
 use Rattle.little_endian.proofs.Laws.Bytes.{bytes_next, bytes-none, bytes-length}
 use Rattle.little_endian.proofs.Laws.Place.{part-filled}
 use Rattle.little_endian.proofs.put.Goals as goal
@@ -14,9 +14,6 @@ use Rattle.little_endian.proofs.put.Goals as goal
 -- the part that is lent is of k bytes
 lent : (b : List ℕ) (at k : ℕ) → at + k ≤ length b → length (take (at + k - at) (drop at b)) ≡ k
 lent b at k h = length-take-le (at + k - at) (drop at b) (omega (arith, length-drop at b)) ∙ omega arith
-
-pub loop-byte-init : goal.loop-byte-init
-loop-byte-init c = let e : c.args.k - 0 ≡ c.args.k = omega arith in rw e (fill_start _ _)
 
 pub loop-byte-preserved : goal.loop-byte-preserved
 loop-byte-preserved c =

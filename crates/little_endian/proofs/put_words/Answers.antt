@@ -1,11 +1,8 @@
 -- `little_endian::put_words` meets its contract: at each turn what is put and what is left are the whole.
 -- Assumes nothing.
 use mathlib.Core.Path.{ap, ◌∙◌}
-use Rattle.little_endian.proofs.Laws.Laying.{lay-start, lay-turn, lay-end}
+use Rattle.little_endian.proofs.Laws.Laying.{lay-turn, lay-end}
 use Rattle.little_endian.proofs.put_words.Goals as goal
-
-pub loop-j-init : goal.loop-j-init
-loop-j-init g c = lay-start _ _ _ _ _ c.requires
 
 pub loop-j-preserved : goal.loop-j-preserved
 loop-j-preserved g c =

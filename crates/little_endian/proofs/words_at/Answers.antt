@@ -2,11 +2,8 @@
 -- Assumes nothing.
 use mathlib.Core.Path.{ap, ◌∙◌}
 use native.Mathlib.Omega.{arith}
-use Rattle.little_endian.proofs.Laws.Laying.{take-start, take-turn, take-end}
+use Rattle.little_endian.proofs.Laws.Laying.{take-turn, take-end}
 use Rattle.little_endian.proofs.words_at.Goals as goal
-
-pub loop-j-init : goal.loop-j-init
-loop-j-init g c = take-start _ _ _ _ _ c.requires
 
 pub loop-j-preserved : goal.loop-j-preserved
 loop-j-preserved g c =
