@@ -3,6 +3,7 @@ use mathlib.Core.Path.{◌≡◌, refl, sym, ap, subst, ◌∙◌}
 use mathlib.Core.Bool.{Bool, true, false}
 use mathlib.Core.List.{List}
 use Prim.Native.Nat.{◌*◌, ◌%◌, ◌<◌}
+use native.Mathlib.Omega.{arith}
 use borrow.Author.Tests.{eqb-true, eqb-false, ltb-true, ltb-false}
 use lib.Dec.{eqb, ltb}
 use lib.IntN.{ℤ}
@@ -21,7 +22,7 @@ module _ (p : Pair) (some : 0 < p.inKhz) (w : Words) (xs : List ℤ) (whole : le
   -- a path that reads puts out as many as it is told
   reading : ((v : Words) (ys : List ℤ) → length (batch_out p v ys) ≡ made p (length ys)) → length (pass p w xs) ≡ made p (length xs)
   unfolding pass made
-  reading each = Pass.pass-length (rates_of p) some (batch_out p) (batch_next p) each w xs whole
+  reading each = Pass.pass-length p.inKhz p.outKhz 10 some (omega arith) (batch_out p) (batch_next p) each w xs whole
 
   pub pass-count : length (pass p w xs) ≡ made p (length xs)
   unfolding batch_out on_path made iir_fir_batch down_batch

@@ -67,11 +67,11 @@ module _ (r : Rates) (some : 0 < r.inKhz) where
 
   pub iir_fir_pass-length : (s : List ℤ × List ℤ) (xs : List ℤ) → length xs % r.inKhz ≡ 0 → length (iir_fir_pass r s xs) ≡ outputs r (length xs)
   unfolding iir_fir_pass
-  iir_fir_pass-length = Pass.pass-length r some (iir_fir_batch r) iir_fir_next (iir_fir_batch-length r)
+  iir_fir_pass-length = Pass.pass-length r.inKhz r.outKhz 10 some (omega arith) (iir_fir_batch r) iir_fir_next (iir_fir_batch-length r)
 
   pub down_pass-length : (g : Filter) (s : List ℤ × List ℤ) (xs : List ℤ) → length xs % r.inKhz ≡ 0 → length (down_pass g r s xs) ≡ outputs r (length xs)
   unfolding down_pass
-  down_pass-length g = Pass.pass-length r some (down_batch g r) (down_next g) (down_batch-length g r)
+  down_pass-length g = Pass.pass-length r.inKhz r.outKhz 10 some (omega arith) (down_batch g r) (down_next g) (down_batch-length g r)
 
 -- what two passes ask, of a record's rates
 pub takes : (s : Record) {r : Rates} {xs ys out : List ℤ} → r ≡ rates_of (pair_of s) → length xs ≡ s.inKhz → length ys % s.inKhz ≡ 0
