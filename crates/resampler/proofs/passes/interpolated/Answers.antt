@@ -23,15 +23,12 @@ silk_resampler_private_IIR_FIR-a-requires c =
     let t = takes p.known.state e p.one p.whole c.requires.room in
     record { steady = (steady, rw e few); milliseconds = (first-whole r steady.some t, first-room r steady.some t) }
 
-pub silk_resampler_private_IIR_FIR-b-requires : goal.silk_resampler_private_IIR_FIR-b-requires
-silk_resampler_private_IIR_FIR-b-requires c =
+pub silk_resampler_private_IIR_FIR-b-requires-clause-steady : goal.silk_resampler_private_IIR_FIR-b-requires-clause-steady
+silk_resampler_private_IIR_FIR-b-requires-clause-steady c =
     let p = c.args.p in
     let e = c.rates-r.ensures in
-    let r = c.rates-r.result in
     let (steady, few) = steady-up (pair_of p.known.state) p.known.supported c.requires.kind in
-    let steady : Steady (2 * r.inKhz) r = rw e steady in
-    let t = takes p.known.state e p.one p.whole c.requires.room in
-    record { steady = (steady, rw e few); milliseconds = (t.whole, rest-room r steady.some t c.silk_resampler_private_IIR_FIR-a.new.out (search rules)) }
+    (rw e steady, rw e few)
 
 pub returns : goal.returns
 unfolding unused
