@@ -95,8 +95,7 @@ fn lowered(p: Parts<'_>, out: &mut [i16]) -> Record
     let fir = s.fir;
     let given = DownWords { ar2, fir };
     let a = stages::silk_resampler_private_down_FIR(r, f, given, out, p.first);
-    let b =
-        stages::silk_resampler_private_down_FIR(r, f, a.words, &mut out[r.outKhz..], p.rest);
+    let b = stages::silk_resampler_private_down_FIR(r, f, a.words, &mut out[r.outKhz..], p.rest);
     let DownWords { ar2, fir } = b.words;
     Record {
         ar2,

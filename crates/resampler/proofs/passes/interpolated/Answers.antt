@@ -10,7 +10,7 @@ use Rattle.resampler.specs.Record.{pair_of, arrays}
 use Rattle.resampler.proofs.Laws.Live.{live-interpolator, with-interpolator}
 use Rattle.resampler.proofs.Laws.Passes.{unused, interpolated}
 use Rattle.resampler.proofs.Laws.Steady.{steady-up}
-use Rattle.resampler.proofs.Laws.Twice.{takes, first-whole, first-room, rest-room, iir_fir_pass-length, twice-staged, both-staged}
+use Rattle.resampler.proofs.Laws.Twice.{takes, first-whole, first-room, iir_fir_pass-length, twice-staged, both-staged}
 use Rattle.resampler.proofs.passes.interpolated.Goals as goal
 
 pub silk_resampler_private_IIR_FIR-a-requires : goal.silk_resampler_private_IIR_FIR-a-requires

@@ -10,7 +10,7 @@ use Rattle.resampler.specs.Record.{pair_of, arrays}
 use Rattle.resampler.proofs.Laws.Live.{live-down, with-down}
 use Rattle.resampler.proofs.Laws.Passes.{unused, lowered}
 use Rattle.resampler.proofs.Laws.Steady.{steady-down}
-use Rattle.resampler.proofs.Laws.Twice.{takes, first-whole, first-room, rest-room, down_pass-length, twice-staged, both-staged}
+use Rattle.resampler.proofs.Laws.Twice.{takes, first-whole, first-room, down_pass-length, twice-staged, both-staged}
 use Rattle.resampler.proofs.passes.lowered.Goals as goal
 
 pub silk_resampler_private_down_FIR-a-requires : goal.silk_resampler_private_down_FIR-a-requires
