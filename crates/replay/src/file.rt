@@ -1,161 +1,104 @@
 // The numbers of the file: read as words or as samples, and compared with what a stage left.
-ghost use Rattle.std.specs.Prelude.{◌≡◌, ◌≤◌, ◌<◌, IfOk, length};
+ghost use Rattle.std.specs.Prelude.{◌≤◌, IfOk};
 
 use std::fs::File;
 use std::io;
 use std::io::Read;
 
-#[derive(Clone, Copy)]
-pub struct Taken {
-    pub more: bool,
-    pub bits: u32,
+// What a number of the file can stand for, and the number that stands for it.
+pub trait Entry: Copy {
+    const ZERO: Self;
+
+    fn of(number: i32) -> Self;
+
+    fn number(self) -> i32;
 }
 
-fn byte(x: u8) -> u32
-    ensures { result < 256 }
-{
-    x as u32
-}
+impl Entry for i32 {
+    const ZERO: i32 = 0;
 
-// Four bytes, the low one first.
-fn joined(b: [u8; 4]) -> u32 {
-    let low = byte(b[0]) + 256 * byte(b[1]);
-    let high = byte(b[2]) + 256 * byte(b[3]);
-    low + 65536 * high
-}
+    fn of(number: i32) -> i32 {
+        number
+    }
 
-// The word that has these bits.
-pub fn signed(bits: u32) -> i32 {
-    if bits < 2147483648 {
-        bits as i32
-    } else {
-        !((4294967295 - bits) as i32)
+    fn number(self) -> i32 {
+        self
     }
 }
 
-// Fills `to`, or as much of it as there is, and answers how many bytes that is.
-fn read_full(from: &mut File, to: &mut [u8]) -> io::Result<usize>
-    ensures { IfOk result (λ n. n ≤ length to.new) }
-{
-    let mut done: usize = 0;
-    while done < to.len() {
-        let n = from.read(&mut to[done..])?;
-        if n == 0 {
-            break;
-        }
-        done += n;
+impl Entry for i16 {
+    const ZERO: i16 = 0;
+
+    fn of(number: i32) -> i16 {
+        fixed::clip(number)
     }
-    Ok(done)
+
+    fn number(self) -> i32 {
+        i32::from(self)
+    }
 }
 
-pub fn take(from: &mut File) -> io::Result<Taken> {
+// The next four bytes, zeros for those that lie behind the end of the file, and how many there were.
+fn four(from: &mut File) -> io::Result<([u8; 4], u64)> {
     let mut b = [0u8; 4];
-    let n = read_full(from, &mut b)?;
-    Ok(Taken {
-        more: n == 4,
-        bits: joined(b),
-    })
+    let n = io::copy(&mut from.take(4), &mut &mut b[..])?;
+    Ok((b, n))
 }
 
-pub fn number(from: &mut File) -> io::Result<i32> {
-    let t = take(from)?;
-    Ok(signed(t.bits))
+// The next number, where the file has not ended.
+pub fn next(from: &mut File) -> io::Result<Option<i32>> {
+    let (b, n) = four(from)?;
+    Ok((n == 4).then_some(i32::from_le_bytes(b)))
+}
+
+// The same as a word or a sample; zero behind the end.
+pub fn take<T: Entry>(from: &mut File) -> io::Result<T> {
+    let (b, _) = four(from)?;
+    Ok(T::of(i32::from_le_bytes(b)))
 }
 
 // How many numbers of a sort a case has; 0 where that can't be.
 pub fn count(from: &mut File) -> io::Result<usize>
     ensures { IfOk result (λ n. n ≤ 1024) }
 {
-    let t = take(from)?;
-    let n = t.bits as usize;
-    if n <= 1024 { Ok(n) } else { Ok(0) }
+    let (b, _) = four(from)?;
+    let n = u32::from_le_bytes(b);
+    Ok(if n <= 1024 { n as usize } else { 0 })
 }
 
 // The next numbers, as many as there are places.
-pub fn take_words(from: &mut File, to: &mut [i32]) -> io::Result<()> {
-    let mut i: usize = 0;
-    while i < to.len() {
-        let x = number(from)?;
-        to[i] = x;
-        i += 1;
-    }
-    Ok(())
-}
-
-// The same as samples.
-pub fn take_samples(from: &mut File, to: &mut [i16]) -> io::Result<()> {
-    let mut i: usize = 0;
-    while i < to.len() {
-        let x = fixed::clip(number(from)?);
-        to[i] = x;
-        i += 1;
+fn fill<T: Entry>(from: &mut File, to: &mut [T]) -> io::Result<()> {
+    for x in to {
+        *x = take(from)?;
     }
     Ok(())
 }
 
 // The next n numbers, and zeros behind them.
-pub fn numbers(from: &mut File, n: usize) -> io::Result<[i32; 48]>
-    requires { n ≤ 48 }
-    ensures { IfOk result (λ to. length to ≡ 48) }
+pub fn front<T: Entry, const N: usize>(from: &mut File, n: usize) -> io::Result<[T; N]>
+    requires { n ≤ N }
 {
-    let mut to = [0i32; 48];
-    take_words(from, &mut to[..n])?;
+    let mut to = [T::ZERO; N];
+    fill(from, &mut to[..n])?;
     Ok(to)
 }
 
-// The next n numbers as samples, and zeros behind them.
-pub fn samples(from: &mut File, n: usize) -> io::Result<[i16; 1024]>
-    requires { n ≤ 1024 }
-    ensures { IfOk result (λ to. length to ≡ 1024) }
-{
-    let mut to = [0i16; 1024];
-    take_samples(from, &mut to[..n])?;
-    Ok(to)
+// The next numbers.
+pub fn array<T: Entry, const N: usize>(from: &mut File) -> io::Result<[T; N]> {
+    front(from, N)
 }
 
-// Whether the next n numbers are the first n of these.
-pub fn same(from: &mut File, n: usize, got: &[i32]) -> io::Result<bool> {
-    if got.len() < n {
-        return Ok(false);
-    }
+// Whether the next numbers are these.
+pub fn same<T: Entry>(from: &mut File, got: &[T]) -> io::Result<bool> {
     let mut all = true;
-    let mut i: usize = 0;
-    while i < n {
-        let want = number(from)?;
-        if got[i] != want {
-            all = false;
-        }
-        i += 1;
+    for x in got {
+        all &= take::<i32>(from)? == x.number();
     }
     Ok(all)
 }
 
-// Samples as words, and zeros behind them.
-fn widened(from: &[i16]) -> [i32; 1024]
-    requires { length from.now ≤ 1024 }
-    ensures { length result ≡ 1024 }
-{
-    let mut to = [0i32; 1024];
-    let mut i: usize = 0;
-    while i < from.len() {
-        let x = from[i] as i32;
-        to[i] = x;
-        i += 1;
-    }
-    to
-}
-
-// Whether the next numbers are these samples.
-pub fn same_samples(from: &mut File, got: &[i16]) -> io::Result<bool> {
-    let n = got.len();
-    if 1024 < n {
-        return Ok(false);
-    }
-    same(from, n, &widened(got))
-}
-
 // Whether the next numbers are this output and behind it these words.
 pub fn same_run(from: &mut File, out: &[i16], words: &[i32]) -> io::Result<bool> {
-    let outputs = same_samples(from, out)?;
-    Ok(outputs & same(from, words.len(), words)?)
+    let outputs = same(from, out)?;
+    Ok(outputs & same(from, words)?)
 }

@@ -6,50 +6,53 @@ use std::fs::File;
 use std::io;
 
 mod file;
+mod kinds;
 mod lines;
 mod operations;
 mod readers;
 mod runs;
 
-#[derive(Clone, Copy)]
+use kinds::Kind;
+
+// The most cases that are read.
+const MOST: u32 = 4000000000;
+
 struct Counted {
-    cases: u64,
-    differ: u64,
+    cases: u32,
+    differ: u32,
 }
 
 // One case after its kind.
-fn case(from: &mut File, kind: i32) -> io::Result<bool> {
+fn case(from: &mut File, kind: Kind) -> io::Result<bool> {
     let given = file::count(from)?;
     let n = file::count(from)?;
     let m = file::count(from)?;
     let after = file::count(from)?;
     match kind {
-        0 | 1 | 2 | 3 | 4 => operations::word_case(from, kind),
-        12 => Ok((given == 103) & (after == 100) & lines::line_case(from, n, m)?),
-        _ => runs::run_case(from, kind, given, n, m),
+        Kind::Word(operation) => operations::word_case(from, operation),
+        Kind::Line => Ok((given == 103) & (after == 100) & lines::line_case(from, n, m)?),
+        Kind::Run(stage) => runs::run_case(from, stage, given, n, m),
     }
 }
 
 fn replay(from: &mut File) -> io::Result<Counted> {
-    let mut left: u32 = 4000000000;
-    let mut cases: u64 = 0;
-    let mut differ: u64 = 0;
-    while left > 0 {
-        let t = file::take(from)?;
-        if !t.more {
+    let mut differ = 0;
+    for cases in 0..MOST {
+        let Some(kind) = file::next(from)? else {
             return Ok(Counted { cases, differ });
-        }
-        cases += 1;
-        if !case(from, file::signed(t.bits))? {
+        };
+        if !case(from, Kind::from(kind))? {
             differ += 1;
         }
-        left -= 1;
     }
-    Ok(Counted { cases, differ })
+    Ok(Counted {
+        cases: MOST,
+        differ,
+    })
 }
 
 fn main(rt: HostRuntime) -> io::Result<()> {
     let mut from = File::open(&rt, "rust.bin")?;
-    let c = replay(&mut from)?;
-    println!(rt; "{} cases, {} differ", c.cases, c.differ)
+    let Counted { cases, differ } = replay(&mut from)?;
+    println!(rt; "{cases} cases, {differ} differ")
 }

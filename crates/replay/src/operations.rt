@@ -1,47 +1,35 @@
 // Cases of one operation on words.
 use crate::file;
+use crate::kinds::Operation;
 use std::fs::File;
 use std::io;
 
 // A product; 0 where c is no coefficient.
 fn product(c: i32, y: i32) -> i32 {
-    if c < 65536 {
-        if -65536 < c {
-            return fixed::mul_q16(c, y);
-        }
+    if c.unsigned_abs() < 65536 {
+        fixed::mul_q16(c, y)
+    } else {
+        0
     }
-    0
 }
 
 // x narrowed by one of the four widths that the stages use; 0 for another.
 fn narrowing(x: i32, n: i32) -> i16 {
-    match n {
-        6 => fixed::narrow(x, 6),
-        10 => fixed::narrow(x, 10),
-        11 => fixed::narrow(x, 11),
-        15 => fixed::narrow(x, 15),
+    match u32::try_from(n) {
+        Ok(n @ (6 | 10 | 11 | 15)) => fixed::narrow(x, n),
         _ => 0,
     }
 }
 
-// What an operation on words gives.
-fn operation(kind: i32, a: i32, b: i32) -> i32 {
-    match kind {
-        0 => fixed::add(a, b),
-        1 => fixed::sub(a, b),
-        2 => fixed::shl2(a),
-        3 => product(a, b),
-        _ => narrowing(a, b) as i32,
-    }
-}
-
-pub fn word_case(from: &mut File, kind: i32) -> io::Result<bool> {
-    let a = file::number(from)?;
-    let mut b: i32 = 0;
-    if kind != 2 {
-        b = file::number(from)?;
-    }
-    let got = operation(kind, a, b);
-    let want = file::number(from)?;
-    Ok(got == want)
+// Whether an operation on the next words gives the one that follows them.
+pub fn word_case(from: &mut File, operation: Operation) -> io::Result<bool> {
+    let a = file::take(from)?;
+    let got = match operation {
+        Operation::Add => fixed::add(a, file::take(from)?),
+        Operation::Sub => fixed::sub(a, file::take(from)?),
+        Operation::Shl2 => fixed::shl2(a),
+        Operation::Product => product(a, file::take(from)?),
+        Operation::Narrow => i32::from(narrowing(a, file::take(from)?)),
+    };
+    Ok(file::take::<i32>(from)? == got)
 }

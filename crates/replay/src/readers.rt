@@ -5,6 +5,7 @@ ghost use Rattle.replay.specs.Small.{Small};
 
 use crate::{file, runs};
 use stages::{DownPass, DownWords, IirFirWords, Rates, rom};
+use std::array;
 use std::fs::File;
 use std::io;
 
@@ -13,11 +14,10 @@ fn within(x: i32, most: usize) -> usize
     requires { 0 < most }
     ensures { (0 < result) × (result ≤ most) }
 {
-    if x < 1 {
-        return 1;
+    match usize::try_from(x) {
+        Ok(n) if 0 < n && n <= most => n,
+        _ => 1,
     }
-    let n = x as usize;
-    if most < n { 1 } else { n }
 }
 
 // The rates among the numbers given, from `at` on.
@@ -45,62 +45,10 @@ fn takes(r: Rates, num: usize, n: usize, places: usize) -> bool
     requires { Small r × (num ≤ 96) }
     ensures { result ≡ true → Steady num r × (n % r.inKhz ≡ 0) × (outputs r n ≤ places) }
 {
-    if 1024 < n {
-        return false;
-    }
-    if n % r.inKhz != 0 {
-        return false;
-    }
-    if times(n / r.inKhz, r.outKhz) + 2 != places {
-        return false;
-    }
-    let span = 10 * (num * 65536) + r.increment;
-    if span <= 10 * times(r.outKhz, r.increment) {
-        return false;
-    }
-    true
-}
-
-fn eight(given: &[i32; 48]) -> [i16; 8]
-    ensures { length result ≡ 8 }
-{
-    [
-        runs::sample(given, 9),
-        runs::sample(given, 10),
-        runs::sample(given, 11),
-        runs::sample(given, 12),
-        runs::sample(given, 13),
-        runs::sample(given, 14),
-        runs::sample(given, 15),
-        runs::sample(given, 16),
-    ]
-}
-
-fn iir_fir_words(given: &[i32; 48]) -> IirFirWords
-    ensures { (length result.doubler ≡ 6) × (length result.samples ≡ 8) }
-{
-    let doubler = runs::six(given, 3);
-    let samples = eight(given);
-    IirFirWords { doubler, samples }
-}
-
-fn iir_fir_pass(
-    from: &mut File,
-    r: Rates,
-    given: &[i32; 48],
-    out: &mut [i16],
-    input: &[i16],
-) -> io::Result<bool>
-    requires steady { Steady (2 * r.inKhz) r × (r.inKhz ≤ 16) }
-    requires in_khz_len { (length input.now % r.inKhz ≡ 0) × (outputs r (length input.now) ≤ length out.old) }
-{
-    let s = iir_fir_words(given);
-    let q = stages::silk_resampler_private_IIR_FIR(r, s, out, input);
-    let after = q.words;
-    let d = after.doubler;
-    let x = after.samples;
-    let outputs = runs::same_written(from, q.written, 2, out, &d)?;
-    Ok(outputs & file::same_samples(from, &x)?)
+    n <= 1024
+        && n % r.inKhz == 0
+        && times(n / r.inKhz, r.outKhz) + 2 == places
+        && 10 * times(r.outKhz, r.increment) < 10 * (num * 65536) + r.increment
 }
 
 pub fn iir_fir(
@@ -110,13 +58,17 @@ pub fn iir_fir(
     input: &[i16],
 ) -> io::Result<bool> {
     let r = rates(given, 0);
-    if 16 < r.inKhz {
+    if 16 < r.inKhz || !takes(r, 2 * r.inKhz, input.len(), out.len()) {
         return Ok(false);
     }
-    if takes(r, 2 * r.inKhz, input.len(), out.len()) {
-        return iir_fir_pass(from, r, given, out, input);
-    }
-    Ok(false)
+    let s = IirFirWords {
+        doubler: runs::entries(given, 3),
+        samples: runs::entries(given, 9),
+    };
+    let q = stages::silk_resampler_private_IIR_FIR(r, s, out, input);
+    let written = runs::all_but(2, q.written, out.len());
+    let outputs = runs::same_written(from, written, out, &q.words.doubler)?;
+    Ok(outputs & file::same(from, &q.words.samples)?)
 }
 
 fn order(which: i32) -> usize
@@ -132,28 +84,12 @@ fn order(which: i32) -> usize
 // What stands behind the live words of a down filter: it must not be read.
 const DEAD: i32 = 1515870810;
 
-// The first n of its words.
-fn live(given: &[i32; 48], n: usize) -> [i32; 36]
-    requires { n ≤ 36 }
-    ensures { length result ≡ 36 }
-{
-    let mut to = [DEAD; 36];
-    let mut i: usize = 0;
-    while i < n {
-        let x = runs::word(given, 6 + i);
-        to[i] = x;
-        i += 1;
+// The words of AR2 and the first n of a down filter.
+fn down_words(given: &[i32; 48], n: usize) -> DownWords {
+    DownWords {
+        ar2: runs::entries(given, 4),
+        fir: array::from_fn(|i| if i < n { runs::word(given, 6 + i) } else { DEAD }),
     }
-    to
-}
-
-fn down_words(given: &[i32; 48], order: usize) -> DownWords
-    requires { order ≤ 36 }
-    ensures { length result.fir ≡ 36 }
-{
-    let ar2 = [runs::word(given, 4), runs::word(given, 5)];
-    let fir = live(given, order);
-    DownWords { ar2, fir }
 }
 
 // The tables of order 36.
@@ -169,9 +105,8 @@ fn coefs_36(which: i32) -> [i64; 20]
 
 // A pass of one of the six down filters.
 fn down(which: i32, r: Rates, s: DownWords, out: &mut [i16], input: &[i16]) -> DownPass
-    requires steady { Steady r.inKhz r × (r.outKhz ≤ 16) × (length s.fir ≡ 36) }
+    requires steady { Steady r.inKhz r × (r.outKhz ≤ 16) }
     requires in_khz_len { (length input.now % r.inKhz ≡ 0) × (outputs r (length input.now) ≤ length out.old) }
-    ensures { length result.words.fir ≡ 36 }
 {
     match which {
         0 => stages::silk_resampler_private_down_FIR(
@@ -205,26 +140,6 @@ fn down(which: i32, r: Rates, s: DownWords, out: &mut [i16], input: &[i16]) -> D
     }
 }
 
-fn down_fir_pass(
-    from: &mut File,
-    r: Rates,
-    given: &[i32; 48],
-    out: &mut [i16],
-    input: &[i16],
-) -> io::Result<bool>
-    requires steady { Steady r.inKhz r × (r.outKhz ≤ 16) }
-    requires in_khz_len { (length input.now % r.inKhz ≡ 0) × (outputs r (length input.now) ≤ length out.old) }
-{
-    let which = runs::word(given, 0);
-    let n = order(which);
-    let q = down(which, r, down_words(given, n), out, input);
-    let after = q.words;
-    let a = after.ar2;
-    let f = after.fir;
-    let outputs = runs::same_written(from, q.written, 2, out, &a)?;
-    Ok(outputs & file::same(from, n, &f)?)
-}
-
 pub fn down_fir(
     from: &mut File,
     given: &[i32; 48],
@@ -232,11 +147,13 @@ pub fn down_fir(
     input: &[i16],
 ) -> io::Result<bool> {
     let r = rates(given, 1);
-    if 16 < r.outKhz {
+    if 16 < r.outKhz || !takes(r, r.inKhz, input.len(), out.len()) {
         return Ok(false);
     }
-    if takes(r, r.inKhz, input.len(), out.len()) {
-        return down_fir_pass(from, r, given, out, input);
-    }
-    Ok(false)
+    let which = runs::word(given, 0);
+    let n = order(which);
+    let q = down(which, r, down_words(given, n), out, input);
+    let written = runs::all_but(2, q.written, out.len());
+    let outputs = runs::same_written(from, written, out, &q.words.ar2)?;
+    Ok(outputs & file::same(from, &q.words.fir[..n])?)
 }

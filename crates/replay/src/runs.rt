@@ -1,7 +1,9 @@
 // Cases of a stage's run. Each function here takes the numbers that a case gives, calls the stage on an output of as many
 // places as the case has, and compares the whole output and the words with the numbers that come next.
-ghost use Rattle.std.specs.Prelude.{◌≡◌, ◌<◌, ◌≤◌, nat_abs, length};
+ghost use Rattle.std.specs.Prelude.{◌≤◌};
 
+use crate::file::Entry;
+use crate::kinds::Stage;
 use crate::{file, readers};
 use stages::Answer;
 use std::fs::File;
@@ -10,65 +12,47 @@ use std::io;
 // What a place of an output holds before a call.
 pub const UNTOUCHED: i16 = 12345;
 
+// Whether all places but so many are written.
+pub fn all_but(spare: usize, written: usize, places: usize) -> bool {
+    written.checked_add(spare) == Some(places)
+}
+
+// Whether so many are done and no more.
+pub fn done_but(spare: usize, a: Answer, places: usize) -> bool {
+    match a {
+        Answer::Done { written } => all_but(spare, written, places),
+        Answer::Refused(_) => false,
+    }
+}
+
 // Whether all places but so many are reported written, and the next numbers are the output and these words.
 pub fn same_written(
     from: &mut File,
-    written: usize,
-    spare: usize,
+    written: bool,
     out: &[i16],
     words: &[i32],
 ) -> io::Result<bool> {
-    if out.len() < written {
-        return Ok(false);
-    }
-    if out.len() - written != spare {
-        return Ok(false);
-    }
-    file::same_run(from, out, words)
-}
-
-fn same_done(
-    from: &mut File,
-    a: Answer,
-    spare: usize,
-    out: &[i16],
-    words: &[i32],
-) -> io::Result<bool> {
-    match a {
-        Answer::Done { written } => same_written(from, written, spare, out, words),
-        Answer::Refused(_) => Ok(false),
+    if written {
+        file::same_run(from, out, words)
+    } else {
+        Ok(false)
     }
 }
 
-// One of the numbers given, as a word or as a sample; 0 where there is none.
+// One of the numbers given; 0 where there is none.
 pub fn word(given: &[i32; 48], i: usize) -> i32 {
-    if i < 48 { given[i] } else { 0 }
+    given.get(i).copied().unwrap_or(0)
 }
 
-pub fn sample(given: &[i32; 48], i: usize) -> i16 {
-    fixed::clip(word(given, i))
-}
-
-// A sample as a tap.
-fn tap(given: &[i32; 48], i: usize) -> i64
-    ensures { nat_abs result < 65536 }
-{
-    sample(given, i) as i64
-}
-
-// Six words from `at` on.
-pub fn six(given: &[i32; 48], at: usize) -> [i32; 6]
+// Those from `at` on, as words or as samples, and zeros behind them.
+pub fn entries<T: Entry, const N: usize>(given: &[i32; 48], at: usize) -> [T; N]
     requires { at ≤ 48 }
-    ensures { length result ≡ 6 }
 {
-    [
-        word(given, at),
-        word(given, at + 1),
-        word(given, at + 2),
-        word(given, at + 3),
-        word(given, at + 4),
-        word(given, at + 5),
-    ]
+    let mut to = [T::ZERO; N];
+    for (x, number) in to.iter_mut().zip(&given[at..]) {
+        *x = T::of(*number);
+    }
+    to
 }
 
 fn ar2(from: &mut File, given: &[i32; 48], input: &[i16]) -> io::Result<bool> {
@@ -76,23 +60,17 @@ fn ar2(from: &mut File, given: &[i32; 48], input: &[i16]) -> io::Result<bool> {
     if 1024 < n {
         return Ok(false);
     }
-    let a = [tap(given, 0), tap(given, 1)];
+    let taps: [i16; 2] = entries(given, 0);
+    let a = [i64::from(taps[0]), i64::from(taps[1])];
     let mut out = [0i32; 1024];
-    let after = stages::silk_resampler_private_AR2(
-        [word(given, 2), word(given, 3)],
-        &mut out,
-        input,
-        &a,
-    );
-    let outputs = file::same(from, n, &out)?;
-    Ok(outputs & file::same(from, 2, &after)?)
+    let after = stages::silk_resampler_private_AR2(entries(given, 2), &mut out, input, &a);
+    let outputs = file::same(from, &out[..n])?;
+    Ok(outputs & file::same(from, &after)?)
 }
 
 fn down2(from: &mut File, given: &[i32; 48], out: &mut [i16], input: &[i16]) -> io::Result<bool> {
-    let h = stages::silk_resampler_down2([word(given, 0), word(given, 1)], out, input);
-    let after = h.words;
-    let answer = h.answer;
-    same_done(from, answer, 0, out, &after)
+    let a = stages::silk_resampler_down2(entries(given, 0), out, input);
+    same_written(from, done_but(0, a.answer, out.len()), out, &a.words)
 }
 
 fn split(
@@ -102,18 +80,14 @@ fn split(
     high: &mut [i16],
     input: &[i16],
 ) -> io::Result<bool> {
-    let h = stages::silk_ana_filt_bank_1([word(given, 0), word(given, 1)], low, high, input);
-    let after = h.words;
-    let answer = h.answer;
-    let lows = file::same_samples(from, low)?;
-    Ok(lows & same_done(from, answer, 0, high, &after)?)
+    let a = stages::silk_ana_filt_bank_1(entries(given, 0), low, high, input);
+    let lows = file::same(from, low)?;
+    Ok(lows & same_written(from, done_but(0, a.answer, high.len()), high, &a.words)?)
 }
 
 fn down2_3(from: &mut File, given: &[i32; 48], out: &mut [i16], input: &[i16]) -> io::Result<bool> {
-    let h = stages::silk_resampler_down2_3(six(given, 0), out, input);
-    let after = h.words;
-    let answer = h.answer;
-    same_done(from, answer, 2, out, &after)
+    let a = stages::silk_resampler_down2_3(entries(given, 0), out, input);
+    same_written(from, done_but(2, a.answer, out.len()), out, &a.words)
 }
 
 fn up2(from: &mut File, given: &[i32; 48], out: &mut [i16], input: &[i16]) -> io::Result<bool> {
@@ -121,55 +95,47 @@ fn up2(from: &mut File, given: &[i32; 48], out: &mut [i16], input: &[i16]) -> io
     if out.len() / 2 != input.len() + 1 {
         return Ok(false);
     }
-    let after = stages::silk_resampler_private_up2_HQ(six(given, 0), out, input);
+    let after = stages::silk_resampler_private_up2_HQ(entries(given, 0), out, input);
     file::same_run(from, out, &after)
 }
 
 fn run(
     from: &mut File,
-    kind: i32,
+    stage: Stage,
     given: &[i32; 48],
     out: &mut [i16],
     high: &mut [i16],
     input: &[i16],
 ) -> io::Result<bool> {
-    match kind {
-        5 => ar2(from, given, input),
-        6 => down2(from, given, out, input),
-        7 => split(from, given, out, high, input),
-        8 => down2_3(from, given, out, input),
-        9 => up2(from, given, out, input),
-        10 => readers::iir_fir(from, given, out, input),
-        11 => readers::down_fir(from, given, out, input),
-        _ => Ok(false),
+    match stage {
+        Stage::Ar2 => ar2(from, given, input),
+        Stage::Down2 => down2(from, given, out, input),
+        Stage::Split => split(from, given, out, high, input),
+        Stage::Down2_3 => down2_3(from, given, out, input),
+        Stage::Up2 => up2(from, given, out, input),
+        Stage::IirFir => readers::iir_fir(from, given, out, input),
+        Stage::DownFir => readers::down_fir(from, given, out, input),
+        Stage::Unknown => Ok(false),
     }
 }
 
-// How many of m places are the high band's.
-fn high_places(kind: i32, m: usize) -> usize
-    ensures { result ≤ m }
-{
-    if kind == 7 { m / 2 } else { 0 }
-}
-
-// A case of n samples and m places of output, of which the last ones are the high band's in the split.
-pub fn run_case(from: &mut File, kind: i32, given: usize, n: usize, m: usize) -> io::Result<bool>
+// A case of n samples and m places of output, of which the last half is the high band's in the split.
+pub fn run_case(from: &mut File, stage: Stage, given: usize, n: usize, m: usize) -> io::Result<bool>
     requires { (n ≤ 1024) × (m ≤ 1024) }
 {
     if 48 < given {
         return Ok(false);
     }
-    let numbers = file::numbers(from, given)?;
-    let input = file::samples(from, n)?;
-    let h = high_places(kind, m);
-    let l = m - h;
+    let numbers = file::front(from, given)?;
+    let input: [i16; 1024] = file::front(from, n)?;
+    let h = if stage == Stage::Split { m / 2 } else { 0 };
     let mut out = [UNTOUCHED; 1024];
     let mut high = [UNTOUCHED; 1024];
     run(
         from,
-        kind,
+        stage,
         &numbers,
-        &mut out[..l],
+        &mut out[..m - h],
         &mut high[..h],
         &input[..n],
     )
