@@ -7,44 +7,42 @@ ghost use Rattle.line.specs.Message as Message;
 pub const ROOM: usize = 48;
 
 // Puts `refused N` to the front, and answers how many bytes it has.
+#[tactic(auto, unfolding(crate::specs::Message::refused))]
 pub fn refused(to: &mut [u8; 48], n: u8) -> usize
     ensures prefix_len { IsPrefixLen result to.new }
     ensures to_after { take result to.new ≡ Message.refused n }
 {
-    let a = put(to, 0, b"refused ");
-    let b = put_decimal(to, a, n as u64);
-    put(to, b, b"\n")
+    put_around(to, b"refused ", n as u64, b"\n")
 }
 
 // Puts `left over N bytes` to the front, and answers how many bytes it has.
+#[tactic(auto, unfolding(crate::specs::Message::left_over))]
 pub fn left_over(to: &mut [u8; 48], n: usize) -> usize
     ensures prefix_len { IsPrefixLen result to.new }
     ensures to_after { take result to.new ≡ Message.left_over n }
 {
-    let a = put(to, 0, b"left over ");
-    let b = put_decimal(to, a, n as u64);
-    put(to, b, b" bytes\n")
+    put_around(to, b"left over ", n as u64, b" bytes\n")
 }
 
-// Puts a number behind the first `at` bytes, and answers how many there are then.
-fn put_decimal(to: &mut [u8], at: usize, n: u64) -> usize
-    requires { at + 20 ≤ length to.old }
-    ensures { (result ≤ at + 20) × (take result to.new ≡ take at to.old ++ Message.decimal n) }
+// Puts a number between two parts, and answers how many bytes they are.
+fn put_around(to: &mut [u8; 48], front: &[u8], n: u64, back: &[u8]) -> usize
+    requires { length front.now + 20 + length back.now ≤ 48 }
+    ensures prefix_len { IsPrefixLen result to.new }
+    ensures to_after { take result to.new ≡ front.now ++ Message.decimal n ++ back.now }
 {
-    let mut text = [0u8; 20];
-    let k = io::decimal(n, &mut text);
-    put(to, at, &text[..k])
+    let mut digits = [0; 20];
+    let k = io::decimal(n, &mut digits);
+    let a = put(to, 0, front);
+    let b = put(to, a, &digits[..k]);
+    put(to, b, back)
 }
 
 // Puts a part behind the first `at` bytes, and answers how many there are then.
-fn put(to: &mut [u8], at: usize, part: &[u8]) -> usize
-    requires { at + length part.now ≤ length to.old }
+fn put(to: &mut [u8; 48], at: usize, part: &[u8]) -> usize
+    requires { at + length part.now ≤ 48 }
     ensures { (result ≡ at + length part.now) × (take result to.new ≡ take at to.old ++ part.now) }
 {
-    let mut i: usize = 0;
-    while i < part.len() {
-        to[at + i] = part[i];
-        i += 1;
-    }
-    at + i
+    let end = at + part.len();
+    to[at..end].copy_from_slice(part);
+    end
 }

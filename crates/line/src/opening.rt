@@ -1,5 +1,5 @@
 // Opening a line from the words that ask for it. Meaning: specs/Opening.antt.
-ghost use Rattle.std.specs.Prelude.{◌≡◌, [], ◌∷◌, ◌<◌, ◌≤◌, length};
+ghost use Rattle.std.specs.Prelude.{◌≡◌, [], ◌∷◌, ◌≤◌, length, IfSome, unwrap_or};
 ghost use Rattle.resampler.specs.Pairs.{pair};
 ghost use Rattle.line.specs.Opening as Opening;
 
@@ -11,23 +11,26 @@ pub fn open(direction: &[u8], inKhz: &[u8], outKhz: &[u8], block: &mut [u8]) -> 
     ensures { let p = Opening.asked_for direction.now inKhz.now outKhz.now in
         Opening.Opens p block.old block.new result }
 {
-    let d = direction_in(direction);
-    let i = khz_in(inKhz);
-    let o = khz_in(outKhz);
-    fresh_block(d, i, o, block)
+    let Some(forEnc) = direction_in(direction) else {
+        return 1;
+    };
+    let Some(inKhz) = khz_in(inKhz) else {
+        return 1;
+    };
+    let Some(outKhz) = khz_in(outKhz) else {
+        return 1;
+    };
+    fresh_block(forEnc, inKhz, outKhz, block)
 }
 
 // The same from their numbers.
-fn fresh_block(d: usize, i: usize, o: usize, block: &mut [u8]) -> u8
-    requires { (length block.old ≡ 512) × (i < 100) × (o < 100) × (d ≤ 2) }
-    ensures { Opening.Opens (pair d i o) block.old block.new result }
+fn fresh_block(forEnc: u8, inKhz: u8, outKhz: u8, block: &mut [u8]) -> u8
+    requires { (length block.old ≡ 512) × (forEnc ≤ 1) }
+    ensures { Opening.Opens (pair forEnc inKhz outKhz) block.old block.new result }
 {
-    if d == 2 {
-        return 1;
-    }
-    let inHz = (1000 * i) as i32;
-    let outHz = (1000 * o) as i32;
-    let opened = resampler::silk_resampler_init(inHz, outHz, d as i32);
+    let inHz = 1000 * i32::from(inKhz);
+    let outHz = 1000 * i32::from(outKhz);
+    let opened = resampler::silk_resampler_init(inHz, outHz, i32::from(forEnc));
     let answer = opened.answer;
     let row = answers::row_of(answer);
     if row != 0 {
@@ -38,63 +41,40 @@ fn fresh_block(d: usize, i: usize, o: usize, block: &mut [u8]) -> u8
     0
 }
 
-// 1 for `encoder`, 0 for `decoder`, 2 for any other word.
-fn direction_in(word: &[u8]) -> usize
-    ensures { (result ≡ Opening.direction_in word.now) × (result ≤ 2) }
+// 1 for `encoder`, 0 for `decoder`.
+#[tactic(auto, using(crate::proofs::Laws::Opening::same_is), unfolding(crate::specs::Opening::direction_in))]
+fn direction_in(word: &[u8]) -> Option<u8>
+    ensures { (unwrap_or result 2 ≡ Opening.direction_in word.now) × IfSome result (λ d. d ≤ 1) }
 {
-    if same(word, b"encoder") {
-        return 1;
+    if word == b"encoder".as_slice() {
+        Some(1)
+    } else if word == b"decoder".as_slice() {
+        Some(0)
+    } else {
+        None
     }
-    if same(word, b"decoder") { 0 } else { 2 }
 }
 
-// The number that one or two digits are; 0 for any other word.
-fn khz_in(word: &[u8]) -> usize
-    ensures { (result ≡ Opening.khz_in word.now) × (result < 100) }
+// The number that one or two digits are.
+#[tactic(auto, unfolding(crate::specs::Opening::khz_in))]
+fn khz_in(word: &[u8]) -> Option<u8>
+    ensures { unwrap_or result 0 ≡ Opening.khz_in word.now }
 {
-    if word.len() == 1 {
-        return number(48, word[0]);
+    match word {
+        [b] => number(b'0', *b),
+        [a, b] => number(*a, *b),
+        _ => None,
     }
-    if word.len() == 2 {
-        return number(word[0], word[1]);
-    }
-    0
 }
 
-// The number of two digits; 0 where they are none.
-fn number(a: u8, b: u8) -> usize
-    ensures { (result ≡ Opening.khz_in (a ∷ b ∷ [])) × (result < 100) }
+// The number of two digits.
+#[tactic(auto, unfolding(crate::specs::Opening::khz_in))]
+fn number(a: u8, b: u8) -> Option<u8>
+    ensures { unwrap_or result 0 ≡ Opening.khz_in (a ∷ b ∷ []) }
 {
-    if !digit(a) {
-        return 0;
+    if a.is_ascii_digit() && b.is_ascii_digit() {
+        Some(10 * (a - b'0') + (b - b'0'))
+    } else {
+        None
     }
-    if !digit(b) {
-        return 0;
-    }
-    10 * (a as usize - 48) + (b as usize - 48)
-}
-
-fn digit(a: u8) -> bool
-    ensures { result ≡ Opening.digit? a }
-{
-    if a < 48 {
-        return false;
-    }
-    a <= 57
-}
-
-fn same(a: &[u8], b: &[u8]) -> bool
-    ensures { result ≡ Opening.same a.now b.now }
-{
-    if a.len() != b.len() {
-        return false;
-    }
-    let mut i: usize = 0;
-    while i < a.len() {
-        if a[i] != b[i] {
-            return false;
-        }
-        i += 1;
-    }
-    true
 }

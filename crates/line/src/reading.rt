@@ -8,14 +8,8 @@ use std::io::Read;
 pub fn read_full(rt: &HostRuntime, to: &mut [u8]) -> io::Result<usize>
     ensures { IfOk result (λ n. n ≤ length to.new) }
 {
-    let mut input = rt.stdin();
-    let mut done: usize = 0;
-    while done < to.len() {
-        let n = input.read(&mut to[done..])?;
-        if n == 0 {
-            break;
-        }
-        done += n;
-    }
-    Ok(done)
+    let most = to.len();
+    let mut rest = to;
+    io::copy(&mut rt.stdin().take(most as u64), &mut rest)?;
+    Ok(most.saturating_sub(rest.len()))
 }

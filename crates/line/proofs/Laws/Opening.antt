@@ -1,4 +1,4 @@
--- The words that ask for a line, place by place; and what opening and parking leave of a pair. Assumes nothing.
+-- The words that ask for a line; and what opening and parking leave of a pair. Assumes nothing.
 use Rattle.std.specs.Prelude.{if◌then◌else◌}
 use mathlib.Core.Path.{◌≡◌, refl, ap, ◌∙◌}
 use mathlib.Core.Logic.{◌⊎◌, inl, inr, ⊎_elim}
@@ -6,68 +6,52 @@ use mathlib.Core.Bool.{Bool, true, false, not, ◌&&◌}
 use mathlib.Core.List.{List, [], ◌∷◌}
 use Prim.Native.Nat.{ℕ, zero, suc, ◌+◌, ◌*◌, ◌-◌, ◌/◌, ◌%◌, ◌<◌, ◌≤◌}
 use native.Mathlib.Omega.{arith}
-use borrow.Author.Tests.{leb-true}
-use lib.Dec.{eqb, leb}
-use lib.IntN.{pos}
-use lib.ListN.{length, drop, get_or}
+use lib.Dec.{eqb}
+use lib.IntN.{ℤ, pos, ◌*ℤ◌}
+use mir.Facts.{to_z-of_z}
+use mir.Syntax.{w32}
+use mir.Val.{to_z, of_z}
+use lib.ListN.{length}
+use Rattle.std.specs.Str.{bytes_eq}
 use Rattle.stages.specs.declared.answer.Answer.{Answer}
 use Rattle.stages.specs.declared.answer.Answer.TheVariants.{Done}
 use Rattle.stages.specs.Outcome.{Outcome, outcome, number, ruled}
-use Rattle.filters.proofs.Laws.Lists.{drop-next, drop-none, both_true}
 use Rattle.resampler.specs.declared.Record.{Record}
-use Rattle.resampler.specs.Pairs.{Pair, pair, supported}
+use Rattle.resampler.specs.Pairs.{Pair, pair, supported, has, five, three}
 use Rattle.resampler.specs.Record.{keeping, record_of, fresh, blank}
 use Rattle.resampler.specs.Entry.{khz, direction_of, asked, open_outcome}
 use Rattle.resampler.specs.Block.{block_of, park_outcome}
 use Rattle.line.proofs.Laws.Ends.{parked}
-use Rattle.line.specs.Opening.{same, digit?, khz_in, Opens}
+use Rattle.line.specs.Opening.{same, Opens}
 
 -- ---- words
 
-pub same_next : (xs ys : List ℕ) (i : ℕ) → i < length xs → length xs ≡ length ys
-    → same (drop i xs) (drop i ys) ≡ (eqb (get_or xs i 0) (get_or ys i 0) && same (drop (i + 1) xs) (drop (i + 1) ys))
+-- the definition compares as the library does
+pub same_is : (xs ys : List ℕ) → same xs ys ≡ bytes_eq xs ys
 unfolding same
-same_next xs ys i h l = rw (drop-next xs i 0 h, drop-next ys i 0 (omega arith)) refl
-
-pub same_end : (xs ys : List ℕ) (i : ℕ) → length xs ≤ i → length xs ≡ length ys → same (drop i xs) (drop i ys) ≡ true
-unfolding same
-same_end xs ys i h l = rw (drop-none xs i h, drop-none ys i (omega arith)) refl
-
-neither : (b : Bool) → (b && false) ≡ false
-neither true = refl
-neither false = refl
-
-pub same-lengths : (xs ys : List ℕ) → (length xs ≡ length ys → ⊥) → same xs ys ≡ false
-unfolding same
-same-lengths [] [] h = absurd (h refl)
-same-lengths [] (y ∷ ys) h = refl
-same-lengths (x ∷ xs) [] h = refl
-same-lengths (x ∷ xs) (y ∷ ys) h = rw (same-lengths xs ys (λ e. h (ap suc e))) (neither (eqb x y))
-
-pub khz-one : (w : List ℕ) → length w ≡ 1 → khz_in (48 ∷ get_or w 0 0 ∷ []) ≡ khz_in w
-unfolding khz_in
-khz-one [] h = absurd (omega arith)
-khz-one (a ∷ []) h = let e : 0 + (a - 48) ≡ a - 48 = omega arith in rw e refl
-khz-one (a ∷ b ∷ w) h = absurd (omega arith)
-
-pub khz-two : (w : List ℕ) → length w ≡ 2 → khz_in (get_or w 0 0 ∷ get_or w 1 0 ∷ []) ≡ khz_in w
-unfolding khz_in
-khz-two [] h = absurd (omega arith)
-khz-two (a ∷ []) h = absurd (omega arith)
-khz-two (a ∷ b ∷ []) h = refl
-khz-two (a ∷ b ∷ c ∷ w) h = absurd (omega arith)
-
-pub khz-other : (w : List ℕ) → (length w ≡ 1 → ⊥) → (length w ≡ 2 → ⊥) → khz_in w ≡ 0
-unfolding khz_in
-khz-other [] h l = refl
-khz-other (a ∷ []) h l = absurd (h refl)
-khz-other (a ∷ b ∷ []) h l = absurd (l refl)
-khz-other (a ∷ b ∷ c ∷ w) h l = refl
-
-pub digit-range : (a : ℕ) → digit? a ≡ true → (48 ≤ a) × (a ≤ 57)
-digit-range a h = let (l, u) = both_true (leb 48 a) (leb a 57) h in (leb-true 48 a l, leb-true a 57 u)
+same_is [] [] = refl
+same_is [] (y ∷ ys) = refl
+same_is (x ∷ xs) [] = refl
+same_is (x ∷ xs) (y ∷ ys) = ap (λ (b : Bool). eqb x y && b) (same_is xs ys)
 
 -- ---- opening
+
+-- a number below 2^31 is stored in a word and read back
+stored : (n : ℕ) → n < 2147483648 → to_z w32 (of_z w32 (pos n)) ≡ pos n
+stored n h = to_z-of_z {w = w32} {z = pos n} (record { sfits = omega arith })
+
+-- kHz in a byte, taken to Hz
+in_hz : (n : ℕ) {z : ℤ} → n < 256 → z ≡ pos n → to_z w32 (of_z w32 (pos 1000 *ℤ to_z w32 (of_z w32 z))) ≡ pos (1000 * n)
+in_hz n h e = rw (e, stored n (omega arith)) (stored (1000 * n) (omega arith))
+
+as_word : (n : ℕ) {z : ℤ} → n < 256 → z ≡ pos n → to_z w32 (of_z w32 z) ≡ pos n
+as_word n h e = rw e (stored n (omega arith))
+
+-- so what is opened is the pair in kHz
+pub opened-as : (d i o : ℕ) {x y z : ℤ} {t : Outcome Record (Unit {0})} → d < 256 → i < 256 → o < 256 → x ≡ pos i → y ≡ pos o → z ≡ pos d
+    → t ≡ open_outcome (to_z w32 (of_z w32 (pos 1000 *ℤ to_z w32 (of_z w32 x)))) (to_z w32 (of_z w32 (pos 1000 *ℤ to_z w32 (of_z w32 y)))) (to_z w32 (of_z w32 z))
+    → t ≡ open_outcome (pos (1000 * i)) (pos (1000 * o)) (pos d)
+opened-as d i o f g h x y z e = rw (in_hz i g x, in_hz o h y, as_word d f z) at e
 
 khz-is : (i : ℕ) → khz (pos (1000 * i)) ≡ i
 unfolding khz
@@ -111,10 +95,22 @@ module _ (d i o : ℕ) (h : d ≤ 1) where
       → (row ≡ 0 → ⊥) → (row ≡ 1) × (supported p ≡ false)
   open-refused e f z = ⊎_elim (λ w. absurd (z w.0)) (λ w. w) (open_row e f)
 
--- no pair has another direction
-pub no-direction : (i o : ℕ) → supported (pair 2 i o) ≡ false
+-- no pair has another direction, or a rate of 0
+pub no-direction : (d i o : ℕ) → 2 ≡ d → supported (pair d i o) ≡ false
 unfolding supported
-no-direction i o = refl
+no-direction d i o e = rw (← e) refl
+
+never : (b : Bool) → (b && false) ≡ false
+never true = refl
+never false = refl
+
+pub no-rate-in : (d i o : ℕ) → 0 ≡ i → supported (pair d i o) ≡ false
+unfolding supported
+no-rate-in d i o e = rw (← e, never (eqb d 1), never (eqb d 0)) refl
+
+pub no-rate-out : (d i o : ℕ) → 0 ≡ o → supported (pair d i o) ≡ false
+unfolding supported
+no-rate-out d i o e = rw (← e, never (eqb d 1 && has five i), never (eqb d 0 && has three i)) refl
 
 -- ---- parking what was opened
 
