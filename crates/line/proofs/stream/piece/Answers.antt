@@ -1,4 +1,5 @@
 -- `line::stream::piece` meets its contract: a call within its buffers, which keeps the pair. Assumes nothing.
+use mathlib.Core.Path.{sym}
 use native.Mathlib.Omega.{arith}
 use lib.Seq.{length-take-le}
 use Rattle.resampler.specs.Record.{pair_of}
@@ -6,16 +7,20 @@ use Rattle.resampler.proofs.Laws.Pairs.{small}
 use Rattle.line.proofs.Laws.Ends.{still-supported, count-within}
 use Rattle.line.proofs.stream.piece.Goals as goal
 
-pub call-c-requires : goal.call-c-requires
-call-c-requires c =
+pub call-called-requires : goal.call-called-requires
+call-called-requires c =
+    let s = small (pair_of c.args.line.«record») c.args.line.pair in
     record {
-      pair = c.requires.0;
-      few = omega (arith, c.in_ok-n.ensures, c.requires.1, length-take-le c.in_ok-n.n c.read_full.new.to, c.read_full.auto.to);
-      fits = omega (arith, c.requires.2, (small (pair_of c.args.s) c.requires.0).4);
+      pair = c.args.line.pair;
+      few = omega (arith, c.in_ok-n.ensures, c.requires, length-take-le c.in_ok-n.n c.read_full.new.to, c.read_full.auto.to);
+      fits = omega arith;
     }
 
 pub slice_bounds-write_all-end : goal.slice_bounds-write_all-end
-slice_bounds-write_all-end c = count-within c.call-c.ensures
+slice_bounds-write_all-end c = sym (length-take-le _ _ (count-within c.call-called.ensures))
 
-pub returns : goal.returns
-returns c = still-supported c.args.s _ c.requires.0 c.call-c.ensures.moved
+pub invariant_of-after : goal.invariant_of-after
+invariant_of-after c = record { pair = still-supported c.args.line.«record» _ c.args.line.pair c.call-called.ensures.moved }
+
+pub invariant_of-after-else-n-input : goal.invariant_of-after-else-n-input
+invariant_of-after-else-n-input c = record { pair = still-supported c.args.line.«record» _ c.args.line.pair c.call-called.ensures.moved }

@@ -1,4 +1,4 @@
--- `line::stream::turn` meets its contract: 100 ms of any rate fit the buffers. Assumes nothing.
+-- `line::stream::turn` meets its contract: 100 ms of any rate fit the buffer. Assumes nothing.
 use mathlib.Core.Path.{sym}
 use native.Mathlib.Omega.{arith}
 use lib.Seq.{length-take-le}
@@ -7,14 +7,10 @@ use Rattle.resampler.proofs.Laws.Pairs.{small}
 use Rattle.line.proofs.stream.turn.Goals as goal
 
 pub slice_bounds-input-end : goal.slice_bounds-input-end
-slice_bounds-input-end c =
-    let s = c.before.before.before in
-    omega (arith, c.before.buffer-input.ensures, (small (pair_of s.args.s) s.requires).2)
+slice_bounds-input-end c = let s = small (pair_of c.args.line.«record») c.args.line.pair in omega arith
 
 pub slice_bounds-piece-end : goal.slice_bounds-piece-end
-slice_bounds-piece-end c = sym (length-take-le _ _ (slice_bounds-input-end c.before))
+slice_bounds-piece-end c = sym (length-take-le _ _ (let s = small (pair_of c.args.line.«record») c.args.line.pair in omega arith))
 
 pub piece-requires : goal.piece-requires
-piece-requires c =
-    let s = c.before.before.before.before.before in
-    (s.requires, sym (slice_bounds-piece-end c.before), c.before.before.buffer-out.ensures)
+piece-requires c = length-take-le _ _ (let s = small (pair_of c.args.line.«record») c.args.line.pair in omega arith)
