@@ -3,7 +3,7 @@
 // here: nothing is written, and the words come back as they were given.
 #![tactic(auto)]
 
-ghost use Rattle.std.specs.Prelude.{◌≡◌, true, ◌*◌, ◌%◌, ◌<◌, ◌≤◌, length};
+ghost use Rattle.std.specs.Prelude.{◌≡◌, true, ◌*◌, ◌%◌, ◌<◌, ◌≤◌};
 ghost use Rattle.filters.specs.Reader.{outputs, Steady};
 ghost use Rattle.filters.specs.Stage.DownFir.{Fitting};
 
@@ -59,8 +59,7 @@ pub extern "C" fn probe_up2_HQ(words: Six, out: &mut [i16], input: &[i16]) -> Do
     if out.len() / 2 < input.len() {
         return Doubles { written: 0, words };
     }
-    let given = words.w;
-    let w = stages::silk_resampler_private_up2_HQ(given, out, input);
+    let w = stages::silk_resampler_private_up2_HQ(words.w, out, input);
     Doubles {
         written: 2 * input.len(),
         words: Six { w },
@@ -72,10 +71,7 @@ fn fits(r: Rates, n: usize, room: usize) -> bool
     requires { (0 < r.inKhz) × (0 < r.outKhz) }
     ensures { result ≡ true → (n % r.inKhz ≡ 0) × (outputs r n ≤ room) }
 {
-    if n % r.inKhz != 0 {
-        return false;
-    }
-    n / r.inKhz <= room / r.outKhz
+    n % r.inKhz == 0 && n / r.inKhz <= room / r.outKhz
 }
 
 fn down(
@@ -87,21 +83,18 @@ fn down(
     out: &mut [i16],
     input: &[i16],
 ) -> DownPass
-    requires { Fitting order rows cs.now × Steady r.inKhz r × (r.outKhz ≤ 16) × (0 < r.outKhz) × (length words.fir ≡ 36) }
+    requires { Fitting order rows cs.now × Steady r.inKhz r × (r.outKhz ≤ 16) × (0 < r.outKhz) }
 {
     if !fits(r, input.len(), out.len()) {
         return DownPass { written: 0, words };
     }
-    let ar2 = words.ar2;
-    let fir = words.fir;
+    let DownWords { ar2, fir } = words;
     let s = stages::DownWords { ar2, fir };
     let q = stages::silk_resampler_private_down_FIR(r, cs, order, rows, s, out, input);
-    let after = q.words;
-    let a = after.ar2;
-    let f = after.fir;
+    let stages::DownWords { ar2, fir } = q.words;
     DownPass {
         written: q.written,
-        words: DownWords { ar2: a, fir: f },
+        words: DownWords { ar2, fir },
     }
 }
 
@@ -166,24 +159,18 @@ pub extern "C" fn probe_down_48_8(words: DownWords, out: &mut [i16], input: &[i1
 }
 
 fn up(r: Rates, words: UpWords, out: &mut [i16], input: &[i16]) -> UpPass
-    requires { Steady (2 * r.inKhz) r × (r.inKhz ≤ 16) × (0 < r.outKhz) × (length words.doubler ≡ 6) × (length words.samples ≡ 8) }
+    requires { Steady (2 * r.inKhz) r × (r.inKhz ≤ 16) × (0 < r.outKhz) }
 {
     if !fits(r, input.len(), out.len()) {
         return UpPass { written: 0, words };
     }
-    let doubler = words.doubler;
-    let samples = words.samples;
+    let UpWords { doubler, samples } = words;
     let s = stages::IirFirWords { doubler, samples };
     let q = stages::silk_resampler_private_IIR_FIR(r, s, out, input);
-    let after = q.words;
-    let d = after.doubler;
-    let x = after.samples;
+    let stages::IirFirWords { doubler, samples } = q.words;
     UpPass {
         written: q.written,
-        words: UpWords {
-            doubler: d,
-            samples: x,
-        },
+        words: UpWords { doubler, samples },
     }
 }
 

@@ -1,9 +1,0 @@
--- `line_cases::main` is safe and ends: i stays within the table. Assumes nothing.
-use Prim.Native.Nat.{◌≤◌, ◌-◌}
-use Rattle.line_cases.proofs.main.Given as goal
-
-abbrev pub invariant-loop-i : goal.invariant-loop-i
-invariant-loop-i l = l.i ≤ 6
-
-abbrev pub decreases-loop-i : goal.decreases-loop-i
-decreases-loop-i l = 6 - l.i
