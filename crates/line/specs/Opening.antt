@@ -1,5 +1,7 @@
 -- Opening a line, from the three words that ask for it to what is written to both streams. Assumes nothing.
-use Rattle.std.specs.Prelude.{if◌then◌else◌, ◌≡◌, ℕ, ◌+◌, ◌*◌, ◌-◌, Bool, true, false, ◌&&◌, List, [], ◌∷◌, leb, eqb}
+use Rattle.std.specs.Prelude.{if◌then◌else◌, ◌≡◌, ℕ, ◌+◌, ◌*◌, ◌-◌, Bool, true, false, ◌&&◌, List, [], ◌∷◌, leb, eqb, Result, MatchResult}
+use Rattle.stages.specs.declared.answer.Refusal.{Refusal}
+use Rattle.stages.specs.Outcome.{row_of}
 use Rattle.resampler.specs.Pairs.{Pair, pair, supported}
 use Rattle.resampler.specs.Record.{fresh}
 use Rattle.resampler.specs.Block.{block_of}
@@ -37,6 +39,10 @@ asked_for direction inKhz outKhz = pair (direction_in direction) (khz_in inKhz) 
 -- what opening a pair leaves: its fresh block and answer 0, or what stood there and answer 1
 abbrev pub Opens : Pair → List ℕ → List ℕ → ℕ → Type 0
 Opens p before after row = (row ≡ (if supported p then 0 else 1)) × (after ≡ (if supported p then block_of (fresh p) else before))
+
+-- the same of what the code answers
+abbrev pub OpensAs : Pair → List ℕ → List ℕ → Result (Unit {0}) Refusal → Type 0
+OpensAs p before after answer = MatchResult answer (λ done. Opens p before after 0) (λ refusal. Opens p before after (row_of refusal))
 
 -- the program: a fresh block, or refusal 1
 unfoldable pub opened : List ℕ → List ℕ → List ℕ → Streams

@@ -43,20 +43,13 @@ pub fn call(s: Record, input: &[u8], out: &mut [u8]) -> Called
     }
 }
 
-// Room for 100 ms of samples at any rate.
-fn buffer() -> [i16; 4800]
-    ensures { length result ≡ 4800 }
-{
-    [0i16; 4800]
-}
-
 // The first n samples of some bytes, and zeros behind them.
 fn samples_in(input: &[u8], n: usize) -> [i16; 4800]
     requires { (n ≤ 4800) × (2 * n ≤ length input.now) }
-    ensures { (length result ≡ 4800) × (take n result ≡ words_at 2 0 n input.now) }
+    ensures { take n result ≡ words_at 2 0 n input.now }
 {
-    let mut xs = buffer();
-    little_endian::samples_at(input, 0, &mut xs[..n]);
+    let mut xs = [0; 4800];
+    little_endian::words_at(input, 0, &mut xs[..n]);
     xs
 }
 
@@ -65,17 +58,8 @@ fn convert(s: Record, xs: &[i16], out: &mut [u8], m: usize) -> Record
     requires { Calling s (length xs.now) 4800 × (length xs.now ≤ 100 * s.inKhz) × (m ≡ made (pair_of s) (length xs.now)) × (2 * m ≤ length out.old) }
     ensures { (result ≡ after s xs.now) × (out.new ≡ over (laid 2 (converted s xs.now)) out.old) }
 {
-    let mut ys = buffer();
-    let record = resampled(s, xs, &mut ys);
-    little_endian::put_samples(out, 0, &ys[..m]);
-    record
-}
-
-// The resampler's call, where nothing is refused.
-fn resampled(s: Record, xs: &[i16], out: &mut [i16]) -> Record
-    requires { Calling s (length xs.now) (length out.old) × (length xs.now ≤ 100 * s.inKhz) }
-    ensures { (result ≡ after s xs.now) × (out.new ≡ over (converted s xs.now) out.old) }
-{
-    let r = resampler::silk_resampler(s, out, xs);
-    r.record
+    let mut ys = [0; 4800];
+    let resampled = resampler::silk_resampler(s, &mut ys, xs);
+    little_endian::put_words(out, 0, &ys[..m]);
+    resampled.state
 }

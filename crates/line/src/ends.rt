@@ -1,28 +1,21 @@
 // The two ends of the program `convert`: the block that it begins with, and the one that it ends in.
-ghost use Rattle.std.specs.Prelude.{◌≡◌, true, length};
+ghost use Rattle.std.specs.Prelude.{◌≡◌, true, length, MatchResult};
+ghost use Rattle.stages.specs.Outcome.{row_of};
 ghost use Rattle.resampler.specs.Pairs.{supported};
 ghost use Rattle.resampler.specs.Record.{pair_of};
-ghost use Rattle.resampler.specs.Block.{block_of};
+ghost use Rattle.resampler.specs.Block.{block_of, resume_row};
 ghost use Rattle.line.specs.Call.{Begins};
 
-use crate::answers;
 use resampler::Record;
+use stages::Refusal;
 
-// The number of the row that refused the block, or 0 and its record.
-#[derive(Clone, Copy)]
-pub struct Begun {
-    pub row: u8,
-    pub record: Record,
-}
-
-pub fn begin(block: &[u8]) -> Begun
-    ensures { Begins block.now result.row result.record }
+// The record in a block, or what the block is refused for.
+pub fn begin(block: &[u8]) -> Result<Record, Refusal>
+    ensures { MatchResult result (Begins block.now 0) (λ refusal. row_of refusal ≡ resume_row block.now) }
 {
     let resumed = resampler::resume(block);
-    let answer = resumed.answer;
-    let row = answers::row_of(answer);
-    let record = resumed.record;
-    Begun { row, record }
+    resumed.answer?;
+    Ok(resumed.state)
 }
 
 // Puts the record's block.

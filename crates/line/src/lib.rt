@@ -1,7 +1,6 @@
 // The programs: their work over slices, with what it comes to in specs/, and the reading and writing around it.
 #![tactic(auto)]
 
-mod answers;
 mod arguments;
 pub mod calls;
 pub mod ends;

@@ -3,42 +3,36 @@ ghost use Rattle.std.specs.Prelude.{◌≡◌, [], ◌∷◌, ◌≤◌, length,
 ghost use Rattle.resampler.specs.Pairs.{pair};
 ghost use Rattle.line.specs.Opening as Opening;
 
-use crate::answers;
+use stages::Refusal;
 
-// Puts the fresh block of the pair that the words ask for into `block` and answers 0, or leaves it and answers 1.
-pub fn open(direction: &[u8], inKhz: &[u8], outKhz: &[u8], block: &mut [u8]) -> u8
+// Puts the fresh block of the pair that the words ask for into `block`, or leaves it where they ask for none.
+pub fn open(
+    direction: &[u8],
+    inKhz: &[u8],
+    outKhz: &[u8],
+    block: &mut [u8],
+) -> Result<(), Refusal>
     requires { length block.old ≡ 512 }
     ensures { let p = Opening.asked_for direction.now inKhz.now outKhz.now in
-        Opening.Opens p block.old block.new result }
+        Opening.OpensAs p block.old block.new result }
 {
-    let Some(forEnc) = direction_in(direction) else {
-        return 1;
-    };
-    let Some(inKhz) = khz_in(inKhz) else {
-        return 1;
-    };
-    let Some(outKhz) = khz_in(outKhz) else {
-        return 1;
-    };
+    let forEnc = direction_in(direction).ok_or(Refusal::PairNotListed)?;
+    let inKhz = khz_in(inKhz).ok_or(Refusal::PairNotListed)?;
+    let outKhz = khz_in(outKhz).ok_or(Refusal::PairNotListed)?;
     fresh_block(forEnc, inKhz, outKhz, block)
 }
 
 // The same from their numbers.
-fn fresh_block(forEnc: u8, inKhz: u8, outKhz: u8, block: &mut [u8]) -> u8
+fn fresh_block(forEnc: u8, inKhz: u8, outKhz: u8, block: &mut [u8]) -> Result<(), Refusal>
     requires { (length block.old ≡ 512) × (forEnc ≤ 1) }
-    ensures { Opening.Opens (pair forEnc inKhz outKhz) block.old block.new result }
+    ensures { Opening.OpensAs (pair forEnc inKhz outKhz) block.old block.new result }
 {
     let inHz = 1000 * i32::from(inKhz);
     let outHz = 1000 * i32::from(outKhz);
     let opened = resampler::silk_resampler_init(inHz, outHz, i32::from(forEnc));
-    let answer = opened.answer;
-    let row = answers::row_of(answer);
-    if row != 0 {
-        return row;
-    }
-    let record = opened.record;
-    resampler::park(record, block);
-    0
+    opened.answer?;
+    resampler::park(opened.state, block);
+    Ok(())
 }
 
 // 1 for `encoder`, 0 for `decoder`.

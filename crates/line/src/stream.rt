@@ -27,11 +27,10 @@ enum Turned {
 pub fn run(rt: &HostRuntime) -> io::Result<()> {
     let mut head = [0; 512];
     let n = read_full(rt, &mut head)?;
-    let begun = ends::begin(&head[..n]);
-    if begun.row != 0 {
-        return said::refuse(rt, begun.row);
+    match ends::begin(&head[..n]) {
+        Ok(record) => go_on(rt, Line { record }),
+        Err(refusal) => said::refuse(rt, refusal),
     }
-    go_on(rt, Line { record: begun.record })
 }
 
 // The samples, what is left over, and the new block.

@@ -3,14 +3,13 @@
 #![tactic(auto)]
 
 ghost use Rattle.std.specs.Prelude.{◌≡◌};
-ghost use Rattle.stages.specs.Outcome.{number, written as count};
 ghost use Rattle.stages.specs.Entry.{down2_outcome, split_outcome, down23_outcome};
 ghost use Rattle.resampler.specs.Entry.{open_outcome, resample_outcome};
 ghost use Rattle.resampler.specs.Block.{park_outcome, resume_outcome};
-ghost use Rattle.simmerpatch.specs.Face.{Told};
+ghost use Rattle.simmerpatch.specs.Face.{Told, TellsAnswer};
 
 use resampler::Record;
-use stages::Answer;
+use stages::{Answered, Refusal};
 
 // The words of the 1/2 decimator and of the split; of the 2/3 decimator. C passes no array by value, but a struct of one.
 #[repr(C)]
@@ -50,58 +49,88 @@ pub struct Thirds {
     pub words: Six,
 }
 
-// An answer in two numbers.
-#[derive(Clone, Copy)]
-struct Numbers {
-    refused: u8,
-    written: usize,
+// What C is told of an answer: two numbers, and the state.
+impl From<Answered<Record>> for Line {
+    ghost from_gives = { λ a line. TellsAnswer a.answer line.refused line.written × (line.«record» ≡ a.state) };
+
+    fn from(a: Answered<Record>) -> Line {
+        let (refused, written) = numbers(a.answer);
+        Line {
+            refused,
+            written,
+            record: a.state,
+        }
+    }
+}
+
+impl From<Answered<[i32; 2]>> for Halves {
+    ghost from_gives = { λ a halves. TellsAnswer a.answer halves.refused halves.written × (halves.words.w ≡ a.state) };
+
+    fn from(a: Answered<[i32; 2]>) -> Halves {
+        let (refused, written) = numbers(a.answer);
+        Halves {
+            refused,
+            written,
+            words: Two { w: a.state },
+        }
+    }
+}
+
+impl From<Answered<[i32; 6]>> for Thirds {
+    ghost from_gives = { λ a thirds. TellsAnswer a.answer thirds.refused thirds.written × (thirds.words.w ≡ a.state) };
+
+    fn from(a: Answered<[i32; 6]>) -> Thirds {
+        let (refused, written) = numbers(a.answer);
+        Thirds {
+            refused,
+            written,
+            words: Six { w: a.state },
+        }
+    }
+}
+
+fn numbers(answer: Result<usize, Refusal>) -> (u8, usize)
+    ensures { TellsAnswer answer result.0 result.1 }
+{
+    match answer {
+        Ok(written) => (0, written),
+        Err(refusal) => (refusal.number(), 0),
+    }
 }
 
 #[unsafe(no_mangle)]
 pub extern "C" fn simmerpatch_open(inHz: i32, outHz: i32, forEnc: i32) -> Line
     ensures { Told (open_outcome inHz outHz forEnc) result.refused result.written result.«record» tt }
 {
-    let o = resampler::silk_resampler_init(inHz, outHz, forEnc);
-    let answer = o.answer;
-    told(answer, o.record)
+    resampler::silk_resampler_init(inHz, outHz, forEnc).into()
 }
 
 #[unsafe(no_mangle)]
 pub extern "C" fn simmerpatch_resample(s: Record, out: &mut [i16], input: &[i16]) -> Line
     ensures { Told (resample_outcome s input.now out.old) result.refused result.written result.«record» out.new }
 {
-    let o = resampler::silk_resampler(s, out, input);
-    let answer = o.answer;
-    told(answer, o.record)
+    resampler::silk_resampler(s, out, input).into()
 }
 
 #[unsafe(no_mangle)]
 pub extern "C" fn simmerpatch_park(s: Record, block: &mut [u8]) -> Line
     ensures { Told (park_outcome s block.old) result.refused result.written result.«record» block.new }
 {
-    let o = resampler::park(s, block);
-    let answer = o.answer;
-    told(answer, o.record)
+    resampler::park(s, block).into()
 }
 
 #[unsafe(no_mangle)]
 pub extern "C" fn simmerpatch_resume(block: &[u8]) -> Line
     ensures { Told (resume_outcome block.now) result.refused result.written result.«record» tt }
 {
-    let o = resampler::resume(block);
-    let answer = o.answer;
-    told(answer, o.record)
+    resampler::resume(block).into()
 }
 
 #[unsafe(no_mangle)]
 pub extern "C" fn simmerpatch_down2(s: Two, out: &mut [i16], input: &[i16]) -> Halves
     ensures { Told (down2_outcome s.w input.now out.old) result.refused result.written result.words.w out.new }
 {
-    let given = s.w;
-    let o = stages::silk_resampler_down2(given, out, input);
-    let answer = o.answer;
-    let w = o.words;
-    in_halves(answer, w)
+    stages::silk_resampler_down2(s.w, out, input).into()
 }
 
 #[unsafe(no_mangle)]
@@ -113,62 +142,12 @@ pub extern "C" fn simmerpatch_split(
 ) -> Halves
     ensures { Told (split_outcome s.w input.now low.old high.old) result.refused result.written result.words.w (low.new, high.new) }
 {
-    let given = s.w;
-    let o = stages::silk_ana_filt_bank_1(given, low, high, input);
-    let answer = o.answer;
-    let w = o.words;
-    in_halves(answer, w)
+    stages::silk_ana_filt_bank_1(s.w, low, high, input).into()
 }
 
 #[unsafe(no_mangle)]
 pub extern "C" fn simmerpatch_down2_3(s: Six, out: &mut [i16], input: &[i16]) -> Thirds
     ensures { Told (down23_outcome s.w input.now out.old) result.refused result.written result.words.w out.new }
 {
-    let given = s.w;
-    let o = stages::silk_resampler_down2_3(given, out, input);
-    let answer = o.answer;
-    let w = o.words;
-    let n = counted(answer);
-    Thirds {
-        refused: n.refused,
-        written: n.written,
-        words: Six { w },
-    }
-}
-
-fn in_halves(a: Answer, w: [i32; 2]) -> Halves
-    ensures { (result.refused ≡ number a) × (result.written ≡ count a) × (result.words.w ≡ w) }
-{
-    let n = counted(a);
-    Halves {
-        refused: n.refused,
-        written: n.written,
-        words: Two { w },
-    }
-}
-
-fn counted(a: Answer) -> Numbers
-    ensures { (result.refused ≡ number a) × (result.written ≡ count a) }
-{
-    match a {
-        Answer::Done { written } => Numbers {
-            refused: 0,
-            written,
-        },
-        Answer::Refused(row) => Numbers {
-            refused: row,
-            written: 0,
-        },
-    }
-}
-
-fn told(a: Answer, s: Record) -> Line
-    ensures { (result.refused ≡ number a) × (result.written ≡ count a) × (result.«record» ≡ s) }
-{
-    let n = counted(a);
-    Line {
-        refused: n.refused,
-        written: n.written,
-        record: s,
-    }
+    stages::silk_resampler_down2_3(s.w, out, input).into()
 }

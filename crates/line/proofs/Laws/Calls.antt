@@ -10,10 +10,9 @@ use borrow.Author.Tests.{eq-eqb, ne_eqb, le-ltb}
 use lib.IntN.{ℤ}
 use lib.ListN.{length, take, drop, length-append, length-drop, drop_of_length-le}
 use lib.Seq.{take_all, take_at, length-take-le}
-use Rattle.stages.specs.declared.answer.Answer.{Answer}
 use Rattle.filters.specs.Lists.{tabulate, joined, cut}
 use Rattle.filters.specs.Run.{run, end, pass_out, pass_end}
-use Rattle.stages.specs.Outcome.{Outcome, outcome, over}
+use Rattle.stages.specs.Outcome.{Answer, Done, Refused, Outcome, outcome, over}
 use Rattle.filters.proofs.Laws.Lists.{tabulate-length, cut-nil, cut-next}
 use Rattle.resampler.specs.declared.Record.{Record}
 use Rattle.resampler.specs.Pairs.{Pair, supported}
@@ -21,7 +20,7 @@ use Rattle.resampler.specs.Record.{pair_of}
 use Rattle.resampler.specs.Resample.{made, converted, after, Calling}
 use Rattle.resampler.specs.Resample as Resample
 use Rattle.resampler.specs.Entry.{resample_row, resample_outcome}
-use Rattle.little_endian.specs.Bytes.{laid, words_at}
+use Rattle.little_endian.specs.Bytes.{bits_of, laid, laid_by, words_at, read_by}
 use Rattle.resampler.proofs.Laws.Entries.{Whole}
 use Rattle.resampler.proofs.Laws.Call.{call-count}
 use Rattle.little_endian.proofs.Laws.Bytes.{laid-length}
@@ -61,7 +60,7 @@ module _ (s : Record) (xs : List ℤ) (room : ℕ) (c : Calling s (length xs) ro
       → z ≡ take 0 old ++ laid 2 (take m o) ++ drop (0 + 2 * length (take m o)) old → z ≡ over (laid 2 (converted s xs)) old
   laid-front o before old m e h q =
       let t : take m o ≡ converted s xs = ap (take m) e ∙ take_at (converted s xs) _ m (call-count s xs room c ∙ sym h) in
-      let d : 0 + 2 * length (converted s xs) ≡ length (laid 2 (converted s xs)) = omega (arith, laid-length 2 (converted s xs)) in
+      let d : 0 + 2 * length (converted s xs) ≡ length (laid 2 (converted s xs)) = omega (arith, laid-length (bits_of 2) 2 (converted s xs)) in
       q ∙ rw (t, d) refl
 
 -- ---- at most 100 ms are one call, and none is no call
@@ -82,16 +81,8 @@ no_call n s = rw (cut-nil n) (refl, refl)
 -- ---- the samples in bytes
 
 words-length : (k i n : ℕ) (b : List ℕ) → length (words_at k i n b) ≡ n
-unfolding words_at
+unfolding read_by
 words-length k i n b = tabulate-length 0 n _
-
--- read into the front of a buffer
-pub samples-front : (n : ℕ) (b : List ℕ) (buf zs : List ℤ) → n ≤ length buf → zs ≡ words_at 2 0 (length (take n buf)) b
-    → (length (zs ++ drop n buf) ≡ length buf) × (take n (zs ++ drop n buf) ≡ words_at 2 0 n b)
-samples-front n b buf zs h e =
-    let is : zs ≡ words_at 2 0 n b = e ∙ ap (λ (m : ℕ). words_at 2 0 m b) (length-take-le n buf h) in
-    let l = ap length is ∙ words-length 2 0 n b in
-    (length-append zs (drop n buf) ∙ omega (arith, l, length-drop n buf), take_at zs (drop n buf) n l ∙ is)
 
 positive : (m k : ℕ) → (m ≡ 0 → ⊥) → 0 < k → 0 < m * k
 positive zero k h l = absurd (h refl)
@@ -102,7 +93,7 @@ positive (suc m) k h l = omega (arith, add-mul 1 m k)
 module _ (s : Record) (b before : List ℕ) where
   -- less than a millisecond: nothing
   pub leaves_none : length b / unit s ≡ 0 → Leaves s b before before s 0 (length b % unit s)
-  unfolding Line.made Line.kept taken words_at tabulate laid flat_map
+  unfolding Line.made Line.kept taken read_by tabulate laid_by flat_map
   leaves_none e =
       let z : length b / unit s * s.inKhz ≡ 0 = rw e (omega arith) in
       let (o, t) = no_call (100 * s.inKhz) s in
@@ -148,6 +139,6 @@ module _ (s : Record) (b before : List ℕ) where
         record {
           moved = a ∙ ap (after s) q ∙ sym kept;
           filled = f ∙ ap (λ (v : List ℤ). over (laid 2 v) before) (ap (converted s) q ∙ sym made);
-          counted = sym (ap (λ (v : List ℤ). length (laid 2 v)) made ∙ laid-length 2 (converted s ys) ∙ ap (λ (j : ℕ). 2 * j) l);
+          counted = sym (ap (λ (v : List ℤ). length (laid 2 v)) made ∙ laid-length (bits_of 2) 2 (converted s ys) ∙ ap (λ (j : ℕ). 2 * j) l);
           over = refl;
         }

@@ -9,11 +9,9 @@ use borrow.Author.Tests.{eq-eqb, eqb-true, eqb-false}
 use lib.Dec.{eqb}
 use lib.IntN.{ℤ}
 use lib.ListN.{length, take, drop, get_or, length-append}
-use Rattle.stages.specs.declared.answer.Answer.{Answer}
-use Rattle.stages.specs.declared.answer.Answer.TheVariants.{Done, Refused}
 use Rattle.filters.specs.Lists.{every, cut}
 use Rattle.filters.specs.Run.{pass_end}
-use Rattle.stages.specs.Outcome.{Outcome, outcome, number}
+use Rattle.stages.specs.Outcome.{Answer, Done, Refused, Outcome, outcome, number}
 use Rattle.filters.proofs.Laws.Run.{end-keeps}
 use Rattle.resampler.specs.declared.Record.{Record}
 use Rattle.resampler.specs.Pairs.{supported}

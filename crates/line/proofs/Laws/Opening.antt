@@ -1,7 +1,6 @@
 -- The words that ask for a line; and what opening and parking leave of a pair. Assumes nothing.
 use Rattle.std.specs.Prelude.{if◌then◌else◌}
 use mathlib.Core.Path.{◌≡◌, refl, ap, ◌∙◌}
-use mathlib.Core.Logic.{◌⊎◌, inl, inr, ⊎_elim}
 use mathlib.Core.Bool.{Bool, true, false, not, ◌&&◌}
 use mathlib.Core.List.{List, [], ◌∷◌}
 use Prim.Native.Nat.{ℕ, zero, suc, ◌+◌, ◌*◌, ◌-◌, ◌/◌, ◌%◌, ◌<◌, ◌≤◌}
@@ -13,9 +12,7 @@ use mir.Syntax.{w32}
 use mir.Val.{to_z, of_z}
 use lib.ListN.{length}
 use Rattle.std.specs.Str.{bytes_eq}
-use Rattle.stages.specs.declared.answer.Answer.{Answer}
-use Rattle.stages.specs.declared.answer.Answer.TheVariants.{Done}
-use Rattle.stages.specs.Outcome.{Outcome, outcome, number, ruled}
+use Rattle.stages.specs.Outcome.{Answer, Done, Refused, Outcome, outcome, number, ruled}
 use Rattle.resampler.specs.declared.Record.{Record}
 use Rattle.resampler.specs.Pairs.{Pair, pair, supported, has, five, three}
 use Rattle.resampler.specs.Record.{keeping, record_of, fresh, blank}
@@ -77,23 +74,22 @@ module _ (d i o : ℕ) (h : d ≤ 1) where
   unfolding open_outcome asked
   outcome-is = rw (khz-is i, khz-is o, direction-is d h) refl
 
-  -- the answer's number and the record of an opening
-  pub open_row : {a : Answer} {r : Record} {row : ℕ} → outcome a r (tt {0}) ≡ open_outcome (pos (1000 * i)) (pos (1000 * o)) (pos d) → row ≡ number a
-      → ((row ≡ 0) × (supported p ≡ true) × (r ≡ fresh p)) ⊎ ((row ≡ 1) × (supported p ≡ false))
-  open_row {a} {r} {row} e f = go (supported p) refl (e ∙ outcome-is)
+  -- a done opening and a refused one
+  pub open_done : {n : ℕ} {r : Record} → outcome (Done n) r (tt {0}) ≡ open_outcome (pos (1000 * i)) (pos (1000 * o)) (pos d) → (supported p ≡ true) × (r ≡ fresh p)
+  open_done {n} {r} e = go (supported p) refl (e ∙ outcome-is)
     where
-      go : (b : Bool) → supported p ≡ b → outcome a r (tt {0}) ≡ ruled (if not b then 1 else 0) blank (tt {0}) (outcome (Done 0) (fresh p) (tt {0}))
-          → ((row ≡ 0) × (supported p ≡ true) × (r ≡ fresh p)) ⊎ ((row ≡ 1) × (supported p ≡ false))
-      go true y q = inl (f ∙ ap (λ (t : Outcome Record (Unit {0})). number t.answer) q, y, ap (λ (t : Outcome Record (Unit {0})). t.state) q)
-      go false y q = inr (f ∙ ap (λ (t : Outcome Record (Unit {0})). number t.answer) q, y)
+      go : (b : Bool) → supported p ≡ b → outcome (Done n) r (tt {0}) ≡ ruled (if not b then 1 else 0) blank (tt {0}) (outcome (Done 0) (fresh p) (tt {0}))
+          → (supported p ≡ true) × (r ≡ fresh p)
+      go true y q = (y, ap (λ (t : Outcome Record (Unit {0})). t.state) q)
+      go false y q = let w = ap (λ (t : Outcome Record (Unit {0})). t.answer) q in cc
 
-  pub open_done : {a : Answer} {r : Record} {row : ℕ} → outcome a r (tt {0}) ≡ open_outcome (pos (1000 * i)) (pos (1000 * o)) (pos d) → row ≡ number a
-      → row ≡ 0 → (supported p ≡ true) × (r ≡ fresh p)
-  open_done e f z = ⊎_elim (λ w. (w.1, w.2)) (λ w. absurd (omega (arith, w.0))) (open_row e f)
-
-  pub open-refused : {a : Answer} {r : Record} {row : ℕ} → outcome a r (tt {0}) ≡ open_outcome (pos (1000 * i)) (pos (1000 * o)) (pos d) → row ≡ number a
-      → (row ≡ 0 → ⊥) → (row ≡ 1) × (supported p ≡ false)
-  open-refused e f z = ⊎_elim (λ w. absurd (z w.0)) (λ w. w) (open_row e f)
+  pub open-refused : {k : ℕ} {r : Record} → outcome (Refused k) r (tt {0}) ≡ open_outcome (pos (1000 * i)) (pos (1000 * o)) (pos d) → (k ≡ 1) × (supported p ≡ false)
+  open-refused {k} {r} e = go (supported p) refl (e ∙ outcome-is)
+    where
+      go : (b : Bool) → supported p ≡ b → outcome (Refused k) r (tt {0}) ≡ ruled (if not b then 1 else 0) blank (tt {0}) (outcome (Done 0) (fresh p) (tt {0}))
+          → (k ≡ 1) × (supported p ≡ false)
+      go true y q = let w = ap (λ (t : Outcome Record (Unit {0})). t.answer) q in cc
+      go false y q = (ap (λ (t : Outcome Record (Unit {0})). number t.answer) q, y)
 
 -- no pair has another direction, or a rate of 0
 pub no-direction : (d i o : ℕ) → 2 ≡ d → supported (pair d i o) ≡ false

@@ -18,7 +18,7 @@ use Rattle.resampler.specs.declared.Record.{Record}
 use Rattle.resampler.specs.Pairs.{Pair, supported}
 use Rattle.resampler.specs.Record.{pair_of}
 use Rattle.resampler.specs.Resample.{converted, after}
-use Rattle.little_endian.specs.Bytes.{value, word_of, words_at, laid, bytes, bits_of}
+use Rattle.little_endian.specs.Bytes.{value, word_of, words_at, read_by, laid, laid_by, bytes, bits_of}
 use Rattle.resampler.specs.Block.{block_of}
 use Rattle.resampler.proofs.Laws.Pairs.{small}
 use Rattle.line.specs.Message.{left_over}
@@ -53,7 +53,7 @@ module _ {A : Type 0} where
 
 -- n words in front of m others
 words_append : (n m : ℕ) (a b : List ℕ) → length a ≡ 2 * n → words_at 2 0 (n + m) (a ++ b) ≡ words_at 2 0 n a ++ words_at 2 0 m b
-unfolding words_at
+unfolding read_by
 words_append n m a b l =
     let f : ℕ → ℤ = λ j. word_of 2 (value (take 2 (drop (0 + j * 2) (a ++ b)))) in
     let front = tabulate-ext 0 0 n f (λ j. word_of 2 (value (take 2 (drop (0 + j * 2) a)))) (λ k h.
@@ -65,7 +65,7 @@ words_append n m a b l =
     tabulate-split 0 n m f ∙ (λ i. front i ++ back i)
 
 laid-append : (k : ℕ) (xs ys : List ℤ) → laid k (xs ++ ys) ≡ laid k xs ++ laid k ys
-unfolding laid flat_map
+unfolding laid_by flat_map
 laid-append k [] ys = refl
 laid-append k (x ∷ xs) ys =
     ap (λ (t : List ℕ). bytes k (bits_of k x) ++ t) (laid-append k xs ys) ∙ sym (append_assoc (bytes k (bits_of k x)) (laid k xs) (laid k ys))
@@ -110,7 +110,7 @@ module _ (s : Record) (h : supported (pair_of s) ≡ true) (a b : List ℕ) (l :
       ∙ ap (λ (xs : List ℤ). xs ++ taken s b) (sym front)
 
   whole : length (taken s a) ≡ 100 * k
-  unfolding words_at
+  unfolding read_by
   whole = ap length front ∙ tabulate-length 0 (100 * k) _
 
   one : (made s a ≡ converted s (taken s a)) × (kept s a ≡ after s (taken s a))
@@ -150,7 +150,7 @@ module _ (s : Record) (h : supported (pair_of s) ≡ true) (a b : List ℕ) (l :
 
 -- nothing more
 pub goes-on-empty : (s : Record) → goes_on s [] ≡ streams (block_of s) []
-unfolding goes_on made kept taken words_at tabulate laid flat_map
+unfolding goes_on made kept taken read_by tabulate laid_by flat_map
 goes-on-empty s =
     let z : 0 / unit s * s.inKhz ≡ 0 = rw (zero-div (unit s)) (omega arith) in
     let (m, t) = no_call (100 * s.inKhz) s in

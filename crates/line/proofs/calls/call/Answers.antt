@@ -2,11 +2,11 @@
 use mathlib.Core.Path.{sym, ap, ◌∙◌}
 use Prim.Native.Nat.{◌*◌, ◌/◌}
 use native.Mathlib.Omega.{arith}
-use lib.ListN.{length, take, length-map}
+use borrow.Author.Rules.{rules}
+use lib.ListN.{length, take}
 use lib.Seq.{length-take-le}
 use Rattle.resampler.specs.Record.{pair_of}
 use Rattle.resampler.specs.Resample as Resample
-use Rattle.resampler.proofs.Laws.Entries.{Whole}
 use Rattle.line.specs.Line.{unit, taken}
 use Rattle.line.proofs.Laws.Sizes.{sizes}
 use Rattle.line.proofs.Laws.Calls.{calling, leaves_none, leaves-some}
@@ -31,26 +31,18 @@ pub samples_in-xs-requires : goal.samples_in-xs-requires
 samples_in-xs-requires c = let z = sizes c.requires in (z.taken, z.held)
 
 pub slice_bounds-xs-end : goal.slice_bounds-xs-end
-slice_bounds-xs-end c = omega (arith, (sizes c.requires).taken, c.samples_in-xs.ensures.0)
+slice_bounds-xs-end c = omega (arith, (sizes c.requires).taken)
 
 pub slice_bounds-convert-end : goal.slice_bounds-convert-end
-slice_bounds-convert-end c =
-    sym (length-take-le _ _ (omega (arith, (sizes c.requires).taken, c.samples_in-xs.ensures.0)))
+slice_bounds-convert-end c = sym (length-take-le _ _ (omega (arith, (sizes c.requires).taken)))
 
 pub convert-record-requires : goal.convert-record-requires
 convert-record-requires c =
     let s = c.args.s in
-    let whole : Whole s = (
-      omega (arith, c.well_formed, length-map s.doubler (λ v. v)),
-      omega (arith, c.well_formed, length-map s.samples (λ v. v)),
-      omega (arith, c.well_formed, length-map s.ar2 (λ v. v)),
-      omega (arith, c.well_formed, length-map s.fir (λ v. v)),
-      omega (arith, c.well_formed, length-map s.delay (λ v. v)),
-    ) in
     let z = sizes c.requires in
     let n = length c.args.input.now / unit s * s.inKhz in
-    let l = length-take-le n c.samples_in-xs.result (omega (arith, z.taken, c.samples_in-xs.ensures.0)) in (
-      calling s c.args.input.now c.args.out.now _ z whole c.requires.pair c.if-ms-eq0.false (take n c.samples_in-xs.result) l,
+    let l = length-take-le n c.samples_in-xs.result (omega (arith, z.taken)) in (
+      calling s c.args.input.now c.args.out.now _ z (search rules) c.requires.pair c.if-ms-eq0.false (take n c.samples_in-xs.result) l,
       omega (arith, l, z.few),
       sym (ap (Resample.made (pair_of s)) l ∙ z.makes),
       z.fits,
@@ -62,13 +54,5 @@ overflow_mul-result c = omega (arith, (sizes c.requires).made)
 pub returns : goal.returns
 unfolding taken
 returns c =
-    let s = c.args.s in
-    let whole : Whole s = (
-      omega (arith, c.well_formed, length-map s.doubler (λ v. v)),
-      omega (arith, c.well_formed, length-map s.samples (λ v. v)),
-      omega (arith, c.well_formed, length-map s.ar2 (λ v. v)),
-      omega (arith, c.well_formed, length-map s.fir (λ v. v)),
-      omega (arith, c.well_formed, length-map s.delay (λ v. v)),
-    ) in
-    leaves-some s c.args.input.now c.args.out.now _ (sizes c.requires) whole c.requires.pair c.if-ms-eq0.false
-    c.samples_in-xs.ensures.1 c.convert-record.ensures.0 c.convert-record.ensures.1
+    leaves-some c.args.s c.args.input.now c.args.out.now _ (sizes c.requires) (search rules) c.requires.pair c.if-ms-eq0.false
+    c.samples_in-xs.ensures c.convert-record.ensures.0 c.convert-record.ensures.1

@@ -1,17 +1,13 @@
--- `line::calls::convert` meets its contract: as many samples as the call makes are laid. Assumes nothing.
-use mathlib.Core.Path.{sym, subst}
-use Prim.Native.Nat.{ℕ}
-use lib.ListN.{length}
-use Rattle.resampler.specs.Resample.{Calling}
-use Rattle.line.proofs.Laws.Calls.{laid-front}
+-- `line::calls::convert` meets its contract: no row applies, so the call is done, and as many samples as it makes are laid.
+-- Assumes nothing.
+use mathlib.Core.Path.{refl}
+use Rattle.line.proofs.Laws.Calls.{call-done, laid-front}
 use Rattle.line.proofs.calls.convert.Goals as goal
 
-pub resampled-record-requires : goal.resampled-record-requires
-resampled-record-requires c =
-    (subst (λ (n : ℕ). Calling c.args.s (length c.args.xs.now) n) (sym c.buffer-ys.ensures) c.requires.0, c.requires.1)
-
 pub returns : goal.returns
-returns c = (
-  c.resampled-record.ensures.0,
-  laid-front c.args.s c.args.xs.now 4800 c.requires.0 _ _ c.args.out.now c.args.m c.resampled-record.ensures.1 c.requires.2 c.put_samples.ensures,
-)
+returns c =
+    let s = c.args in
+    let (r, o) = call-done s.s s.xs.now 4800 c.requires.0 _ c.requires.1 refl c.silk_resampler-resampled.ensures in (
+      r,
+      laid-front s.s s.xs.now 4800 c.requires.0 _ _ s.out.now s.m o c.requires.2 c.put_words.ensures,
+    )

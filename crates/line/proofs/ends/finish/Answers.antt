@@ -3,7 +3,4 @@ use Rattle.line.proofs.Laws.Ends.{parked}
 use Rattle.line.proofs.ends.finish.Goals as goal
 
 pub returns : goal.returns
-returns c =
-    let k = c.before.before in
-    let s = k.before.before.before in
-    parked s.args.s s.args.block.now s.requires.0 s.requires.1 k.park.ensures
+returns c = parked c.args.s c.args.block.now c.requires.0 c.requires.1 c.park.ensures
