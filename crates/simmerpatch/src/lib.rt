@@ -67,11 +67,12 @@ impl From<Answered<[i32; 2]>> for Halves {
     ghost from_gives = { λ a halves. TellsAnswer a.answer halves.refused halves.written × (halves.words.w ≡ a.state) };
 
     fn from(a: Answered<[i32; 2]>) -> Halves {
-        let (refused, written) = numbers(a.answer);
+        let Answered { answer, state: w } = a;
+        let (refused, written) = numbers(answer);
         Halves {
             refused,
             written,
-            words: Two { w: a.state },
+            words: Two { w },
         }
     }
 }
@@ -80,11 +81,12 @@ impl From<Answered<[i32; 6]>> for Thirds {
     ghost from_gives = { λ a thirds. TellsAnswer a.answer thirds.refused thirds.written × (thirds.words.w ≡ a.state) };
 
     fn from(a: Answered<[i32; 6]>) -> Thirds {
-        let (refused, written) = numbers(a.answer);
+        let Answered { answer, state: w } = a;
+        let (refused, written) = numbers(answer);
         Thirds {
             refused,
             written,
-            words: Six { w: a.state },
+            words: Six { w },
         }
     }
 }

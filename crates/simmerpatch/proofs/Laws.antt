@@ -1,2 +1,0 @@
--- The law that the proofs cite.
-pub mod Told
