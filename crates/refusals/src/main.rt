@@ -3,7 +3,7 @@
 #![tactic(auto)]
 
 use resampler::Record;
-use stages::Answer;
+use stages::Refusal;
 use std::io;
 
 // Every sample of the input.
@@ -99,10 +99,10 @@ const CALLS: [Call; 63] = [
 ];
 
 // An answer's number and count.
-fn numbers(a: Answer) -> (u8, usize) {
-    match a {
-        Answer::Done { written } => (0, written),
-        Answer::Refused(row) => (row, 0),
+fn numbers(answer: Result<usize, Refusal>) -> (u8, usize) {
+    match answer {
+        Ok(written) => (0, written),
+        Err(refusal) => (refusal.number(), 0),
     }
 }
 
@@ -121,8 +121,8 @@ fn behind(out: &[i16], written: usize) -> usize {
 }
 
 // `left_out`: how many of the places that are reported written are as they were.
-fn answered(rt: &HostRuntime, a: Answer, left_out: usize, words: &[i32]) -> io::Result<()> {
-    let (row, written) = numbers(a);
+fn answered(rt: &HostRuntime, answer: Result<usize, Refusal>, left_out: usize, words: &[i32]) -> io::Result<()> {
+    let (row, written) = numbers(answer);
     let told = if left_out == 0 { "written" } else { "reported" };
     let words = if WORDS.starts_with(words) { "kept" } else { "changed" };
     print!(rt; "{row}, {written} {told}, words {words}, ")
@@ -133,22 +133,22 @@ fn asked(rt: &HostRuntime, name: &str, samples: usize, places: usize) -> io::Res
 }
 
 // What a call left: its answer, its words and its output.
-fn left(rt: &HostRuntime, a: Answer, words: &[i32], out: &[i16]) -> io::Result<()> {
-    let (_, written) = numbers(a);
-    answered(rt, a, left_out(out, written), words)?;
+fn left(rt: &HostRuntime, answer: Result<usize, Refusal>, words: &[i32], out: &[i16]) -> io::Result<()> {
+    let (_, written) = numbers(answer);
+    answered(rt, answer, left_out(out, written), words)?;
     println!(rt; "{} untouched", behind(out, written))
 }
 
 fn down2(rt: &HostRuntime, out: &mut [i16], input: &[i16]) -> io::Result<()> {
     asked(rt, "1/2 decimator", input.len(), out.len())?;
     let a = stages::silk_resampler_down2([WORDS[0], WORDS[1]], out, input);
-    left(rt, a.answer, &a.words, out)
+    left(rt, a.answer, &a.state, out)
 }
 
 fn down2_3(rt: &HostRuntime, out: &mut [i16], input: &[i16]) -> io::Result<()> {
     asked(rt, "2/3 decimator", input.len(), out.len())?;
     let a = stages::silk_resampler_down2_3(WORDS, out, input);
-    left(rt, a.answer, &a.words, out)
+    left(rt, a.answer, &a.state, out)
 }
 
 fn split(rt: &HostRuntime, low: &mut [i16], high: &mut [i16], input: &[i16]) -> io::Result<()> {
@@ -156,7 +156,7 @@ fn split(rt: &HostRuntime, low: &mut [i16], high: &mut [i16], input: &[i16]) -> 
     let a = stages::silk_ana_filt_bank_1([WORDS[0], WORDS[1]], low, high, input);
     let (_, written) = numbers(a.answer);
     let left_out = left_out(low, written) | left_out(high, written);
-    answered(rt, a.answer, left_out, &a.words)?;
+    answered(rt, a.answer, left_out, &a.state)?;
     println!(rt; "{} and {} untouched", behind(low, written), behind(high, written))
 }
 
@@ -180,7 +180,7 @@ fn resample(
         delay: [0; 48],
     };
     let a = resampler::silk_resampler(s, out, input);
-    left(rt, a.answer, &a.record.doubler, out)
+    left(rt, a.answer, &a.state.doubler, out)
 }
 
 fn samples(input: &[i16; MOST], n: usize) -> &[i16] {

@@ -40,7 +40,7 @@ fn same_record(from: &mut File, s: &Record) -> io::Result<bool> {
 fn call(from: &mut File, s: Record, out: &mut [i16], input: &[i16]) -> io::Result<bool> {
     let r = resampler::silk_resampler(s, out, input);
     let outputs = file::same(from, out)?;
-    Ok(runs::done_but(2, r.answer, out.len()) & outputs & same_record(from, &r.record)?)
+    Ok(runs::done_but(2, r.answer, out.len()) & outputs & same_record(from, &r.state)?)
 }
 
 // A call of n samples and m places of output, the last two of which are to stay as they were.

@@ -5,7 +5,7 @@ ghost use Rattle.std.specs.Prelude.{◌≤◌};
 use crate::file::Entry;
 use crate::kinds::Stage;
 use crate::{file, readers};
-use stages::Answer;
+use stages::Refusal;
 use std::fs::File;
 use std::io;
 
@@ -18,11 +18,8 @@ pub fn all_but(spare: usize, written: usize, places: usize) -> bool {
 }
 
 // Whether so many are done and no more.
-pub fn done_but(spare: usize, a: Answer, places: usize) -> bool {
-    match a {
-        Answer::Done { written } => all_but(spare, written, places),
-        Answer::Refused(_) => false,
-    }
+pub fn done_but(spare: usize, answer: Result<usize, Refusal>, places: usize) -> bool {
+    answer.is_ok_and(|written| all_but(spare, written, places))
 }
 
 // Whether all places but so many are reported written, and the next numbers are the output and these words.
@@ -70,7 +67,7 @@ fn ar2(from: &mut File, given: &[i32; 48], input: &[i16]) -> io::Result<bool> {
 
 fn down2(from: &mut File, given: &[i32; 48], out: &mut [i16], input: &[i16]) -> io::Result<bool> {
     let a = stages::silk_resampler_down2(entries(given, 0), out, input);
-    same_written(from, done_but(0, a.answer, out.len()), out, &a.words)
+    same_written(from, done_but(0, a.answer, out.len()), out, &a.state)
 }
 
 fn split(
@@ -82,12 +79,12 @@ fn split(
 ) -> io::Result<bool> {
     let a = stages::silk_ana_filt_bank_1(entries(given, 0), low, high, input);
     let lows = file::same(from, low)?;
-    Ok(lows & same_written(from, done_but(0, a.answer, high.len()), high, &a.words)?)
+    Ok(lows & same_written(from, done_but(0, a.answer, high.len()), high, &a.state)?)
 }
 
 fn down2_3(from: &mut File, given: &[i32; 48], out: &mut [i16], input: &[i16]) -> io::Result<bool> {
     let a = stages::silk_resampler_down2_3(entries(given, 0), out, input);
-    same_written(from, done_but(2, a.answer, out.len()), out, &a.words)
+    same_written(from, done_but(2, a.answer, out.len()), out, &a.state)
 }
 
 fn up2(from: &mut File, given: &[i32; 48], out: &mut [i16], input: &[i16]) -> io::Result<bool> {
