@@ -18,7 +18,7 @@ use Rattle.resampler.specs.Block.{record_in, resume_row}
 use Rattle.resampler.proofs.Laws.Resuming.{row-length}
 use Rattle.line.specs.Line.{streams, unit, made, kept, goes_on, program}
 use Rattle.line.specs.Claims.{fed, CallByCall, ShortRefused, EmptyLine}
-use Rattle.line.proofs.Laws.Ends.{row-supported, row-whole, kept_pair, still-supported}
+use Rattle.line.proofs.Laws.Ends.{row-supported, row-whole, kept_pair, still_supported}
 use Rattle.line.proofs.Laws.Pieces.{goes-on-front, goes-on-empty}
 
 -- by induction: each piece is the front of what is left
@@ -30,7 +30,7 @@ by-pieces s (b ∷ bs) last h q =
     let (here, there) = both_true (eqb (length b) (100 * unit s)) (every (λ c. eqb (length c) (100 * unit s)) bs) q in
     let rate = ap (λ (p : Pair). p.inKhz) (kept_pair s b) in
     let rest : every (λ c. eqb (length c) (100 * unit (kept s b))) bs ≡ true = ap (λ (k : ℕ). every (λ c. eqb (length c) (100 * (2 * k))) bs) rate ∙ there in
-    let later = by-pieces (kept s b) bs last (still-supported s b h refl) rest in
+    let later = by-pieces (kept s b) bs last (still_supported s b h refl) rest in
     ap (goes_on s) (append_assoc b (joined bs) last) ∙ goes-on-front s h b (joined bs ++ last) (eqb-true _ _ here)
     ∙ (λ i. streams (laid 2 (made s b) ++ (later i).out) (later i).err)
 

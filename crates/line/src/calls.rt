@@ -18,6 +18,7 @@ pub struct Called {
 }
 
 // Converts the whole milliseconds of `input`, and puts what they make to the front of `out`.
+#[tactic(auto, using(crate::proofs::Laws::Sizes::sizes))]
 pub fn call(s: Record, input: &[u8], out: &mut [u8]) -> Called
     requires { Asks s (length input.now) (length out.old) }
     ensures { Leaves s input.now out.old out.new result.record result.count result.left }

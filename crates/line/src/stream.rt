@@ -64,6 +64,7 @@ fn turn(rt: &HostRuntime, line: Line) -> io::Result<Turned> {
 }
 
 // Fills `input`, or as much of it as there is, converts it and writes what was made.
+#[tactic(auto, using(crate::proofs::Laws::Ends::still_supported, crate::proofs::Laws::Ends::count_within))]
 fn piece(rt: &HostRuntime, line: Line, input: &mut [u8]) -> io::Result<Turned>
     requires { length input.old ≡ 200 * line.«record».inKhz }
 {

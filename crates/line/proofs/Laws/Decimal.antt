@@ -35,17 +35,6 @@ unfolding decimal
 decimal-is zero n (a, b, c) = absurd (omega arith)
 decimal-is (suc k) n (a, b, c) = fewest k (suc n) n (omega arith) b (λ z. rw (more k) at (c (omega arith)))
 
--- a number of 64 bits has at most twenty
-pub twenty : (k n : ℕ) → IsDigitCount 10 1 n k → n < 2 ^ 64 → k ≤ 20
-twenty k n (a, b, c) h = go (leb k 20) refl
-  where
-    go : (t : Bool) → leb k 20 ≡ t → k ≤ 20
-    go true e = leb-true k 20 e
-    go false e =
-        let l = leb-false k 20 e in
-        let p : 10 ^ 20 ≤ 10 ^ (k - 1) = pow-le-pow_right {n = 10} (omega arith) {i = 20} {j = k - 1} (omega arith) in
-        absurd (omega (arith, c (omega arith)))
-
 -- three parts, one behind the other
 pub three-parts : {s t u p : List ℕ} (q l : List ℕ) → s ≡ p → t ≡ s ++ q → u ≡ t ++ l → u ≡ p ++ q ++ l
 three-parts q l e f g = g ∙ ap (λ (t : List ℕ). t ++ l) (f ∙ ap (λ (t : List ℕ). t ++ q) e)

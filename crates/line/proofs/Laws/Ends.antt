@@ -84,12 +84,12 @@ unfolding kept pass_end
 kept_pair s b =
     end-keeps after (λ t. pair_of t ≡ pair_of s) (λ t xs h. after-pair t xs ∙ h) s (cut (100 * s.inKhz) (taken s b)) refl
 
-pub still-supported : (s : Record) (b : List ℕ) {t : Record} → supported (pair_of s) ≡ true → t ≡ kept s b → supported (pair_of t) ≡ true
-still-supported s b h e = ap (λ (t : Record). supported (pair_of t)) e ∙ ap supported (kept_pair s b) ∙ h
+pub still_supported : (s : Record) (b : List ℕ) {t : Record} → supported (pair_of s) ≡ true → t ≡ kept s b → supported (pair_of t) ≡ true
+still_supported s b h e = ap (λ (t : Record). supported (pair_of t)) e ∙ ap supported (kept_pair s b) ∙ h
 
 -- ---- what was made lies within its room
 
-pub count-within : {s : Record} {b before after : List ℕ} {t : Record} {count left : ℕ} → Leaves s b before after t count left → count ≤ length after
-count-within {s} {b} {before} {after} {t} {count} l =
+pub count_within : {s : Record} {b before after : List ℕ} {t : Record} {count left : ℕ} → Leaves s b before after t count left → count ≤ length after
+count_within {s} {b} {before} {after} {t} {count} l =
     let new = laid 2 (made s b) in
     omega (arith, l.counted, ap length l.filled, length-append new (drop (length new) before))

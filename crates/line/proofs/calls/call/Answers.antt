@@ -21,12 +21,6 @@ nonzero_rem-left c = omega (arith, (sizes c.requires).some)
 pub returns-then-ms-eq0 : goal.returns-then-ms-eq0
 returns-then-ms-eq0 c = leaves_none c.args.s c.args.input.now c.args.out.now c.if-ms-eq0.true
 
-pub overflow_mul-n : goal.overflow_mul-n
-overflow_mul-n c = omega (arith, (sizes c.requires).taken)
-
-pub overflow_mul-m : goal.overflow_mul-m
-overflow_mul-m c = omega (arith, (sizes c.requires).made)
-
 pub samples_in-xs-requires : goal.samples_in-xs-requires
 samples_in-xs-requires c = let z = sizes c.requires in (z.taken, z.held)
 
@@ -47,9 +41,6 @@ convert-record-requires c =
       sym (ap (Resample.made (pair_of s)) l ∙ z.makes),
       z.fits,
     )
-
-pub overflow_mul-result : goal.overflow_mul-result
-overflow_mul-result c = omega (arith, (sizes c.requires).made)
 
 pub returns : goal.returns
 unfolding taken
