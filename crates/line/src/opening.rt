@@ -6,12 +6,7 @@ ghost use Rattle.line.specs.Opening as Opening;
 use stages::Refusal;
 
 // Puts the fresh block of the pair that the words ask for into `block`, or leaves it where they ask for none.
-pub fn open(
-    direction: &[u8],
-    inKhz: &[u8],
-    outKhz: &[u8],
-    block: &mut [u8],
-) -> Result<(), Refusal>
+pub fn open(direction: &[u8], inKhz: &[u8], outKhz: &[u8], block: &mut [u8]) -> Result<(), Refusal>
     requires { length block.old ≡ 512 }
     ensures { let p = Opening.asked_for direction.now inKhz.now outKhz.now in
         Opening.OpensAs p block.old block.new result }

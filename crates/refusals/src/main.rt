@@ -121,10 +121,19 @@ fn behind(out: &[i16], written: usize) -> usize {
 }
 
 // `left_out`: how many of the places that are reported written are as they were.
-fn answered(rt: &HostRuntime, answer: Result<usize, Refusal>, left_out: usize, words: &[i32]) -> io::Result<()> {
+fn answered(
+    rt: &HostRuntime,
+    answer: Result<usize, Refusal>,
+    left_out: usize,
+    words: &[i32],
+) -> io::Result<()> {
     let (row, written) = numbers(answer);
     let told = if left_out == 0 { "written" } else { "reported" };
-    let words = if WORDS.starts_with(words) { "kept" } else { "changed" };
+    let words = if WORDS.starts_with(words) {
+        "kept"
+    } else {
+        "changed"
+    };
     print!(rt; "{row}, {written} {told}, words {words}, ")
 }
 
@@ -133,7 +142,12 @@ fn asked(rt: &HostRuntime, name: &str, samples: usize, places: usize) -> io::Res
 }
 
 // What a call left: its answer, its words and its output.
-fn left(rt: &HostRuntime, answer: Result<usize, Refusal>, words: &[i32], out: &[i16]) -> io::Result<()> {
+fn left(
+    rt: &HostRuntime,
+    answer: Result<usize, Refusal>,
+    words: &[i32],
+    out: &[i16],
+) -> io::Result<()> {
     let (_, written) = numbers(answer);
     answered(rt, answer, left_out(out, written), words)?;
     println!(rt; "{} untouched", behind(out, written))
@@ -152,12 +166,21 @@ fn down2_3(rt: &HostRuntime, out: &mut [i16], input: &[i16]) -> io::Result<()> {
 }
 
 fn split(rt: &HostRuntime, low: &mut [i16], high: &mut [i16], input: &[i16]) -> io::Result<()> {
-    print!(rt; "split, {} samples, {} and {} places: ", input.len(), low.len(), high.len())?;
+    print!(rt;
+        "split, {} samples, {} and {} places: ",
+        input.len(),
+        low.len(),
+        high.len()
+    )?;
     let a = stages::silk_ana_filt_bank_1([WORDS[0], WORDS[1]], low, high, input);
     let (_, written) = numbers(a.answer);
     let left_out = left_out(low, written) | left_out(high, written);
     answered(rt, a.answer, left_out, &a.state)?;
-    println!(rt; "{} and {} untouched", behind(low, written), behind(high, written))
+    println!(rt;
+        "{} and {} untouched",
+        behind(low, written),
+        behind(high, written)
+    )
 }
 
 // The resampler's words are those of the doubler.
@@ -168,7 +191,11 @@ fn resample(
     out: &mut [i16],
     input: &[i16],
 ) -> io::Result<()> {
-    print!(rt; "{inKhz} to {outKhz}, {} samples, {} places: ", input.len(), out.len())?;
+    print!(rt;
+        "{inKhz} to {outKhz}, {} samples, {} places: ",
+        input.len(),
+        out.len()
+    )?;
     let s = Record {
         direction: 1,
         inKhz,
@@ -198,7 +225,12 @@ fn run(rt: &HostRuntime, call: Call) -> io::Result<()> {
     match call {
         Call::Down2(n, m) => down2(rt, places(&mut out, m), samples(&input, n)),
         Call::Split(n, m, h) => {
-            split(rt, places(&mut out, m), places(&mut high, h), samples(&input, n))
+            split(
+                rt,
+                places(&mut out, m),
+                places(&mut high, h),
+                samples(&input, n),
+            )
         }
         Call::Down2_3(n, m) => down2_3(rt, places(&mut out, m), samples(&input, n)),
         Call::Line(n, m) => resample(rt, 8, 16, places(&mut out, m), samples(&input, n)),

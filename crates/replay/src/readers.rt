@@ -5,9 +5,8 @@ ghost use Rattle.replay.specs.Small.{Small};
 
 use crate::{file, runs};
 use stages::{DownPass, DownWords, IirFirWords, Rates, rom};
-use std::array;
 use std::fs::File;
-use std::io;
+use std::{array, io};
 
 // A number that is one of 1 to `most`; 1 where it is another.
 fn within(x: i32, most: usize) -> usize
@@ -88,7 +87,11 @@ const DEAD: i32 = 1515870810;
 fn down_words(given: &[i32; 48], n: usize) -> DownWords {
     DownWords {
         ar2: runs::entries(given, 4),
-        fir: array::from_fn(|i| if i < n { runs::word(given, 6 + i) } else { DEAD }),
+        fir: array::from_fn(|i| if i < n {
+            runs::word(given, 6 + i)
+        } else {
+            DEAD
+        }),
     }
 }
 

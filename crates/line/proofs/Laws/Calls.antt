@@ -8,11 +8,11 @@ use native.Mathlib.Nat.{add-mul}
 use native.Mathlib.Omega.{arith}
 use borrow.Author.Tests.{eq-eqb, ne_eqb, le-ltb}
 use lib.IntN.{ℤ}
-use lib.ListN.{length, take, drop, length-append, length-drop, drop_of_length-le}
-use lib.Seq.{take_all, take_at, length-take-le}
+use lib.ListN.{length, take, drop, drop_of_length-le}
+use lib.Seq.{take_all, take_at}
 use Rattle.filters.specs.Lists.{tabulate, joined, cut}
 use Rattle.filters.specs.Run.{run, end, pass_out, pass_end}
-use Rattle.stages.specs.Outcome.{Answer, Done, Refused, Outcome, outcome, over}
+use Rattle.stages.specs.Outcome.{Answer, Outcome, outcome, over}
 use Rattle.filters.proofs.Laws.Lists.{tabulate-length, cut-nil, cut-next}
 use Rattle.resampler.specs.declared.Record.{Record}
 use Rattle.resampler.specs.Pairs.{Pair, supported}

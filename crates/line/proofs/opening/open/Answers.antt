@@ -1,12 +1,12 @@
 -- `line::opening::open` meets its contract: the words' numbers are the pair asked for, and without one there is no pair.
 -- Assumes nothing.
-use mathlib.Core.Path.{◌≡◌, refl, sym, ap, ◌∙◌}
+use mathlib.Core.Path.{◌≡◌, refl, ap, ◌∙◌}
 use Rattle.std.specs.Prelude.{Option, Some, None, Result, Ok, Err, unwrap_or}
 use Rattle.std.specs.Option.{ok_or}
 use Rattle.std.proofs.lemmas.Result.{err_from_is_err_and}
 use Rattle.stages.specs.declared.answer.Refusal.{Refusal}
 use Rattle.stages.specs.declared.answer.Refusal.TheVariants.{PairNotListed}
-use Rattle.line.specs.Opening.{direction_in, khz_in, asked_for}
+use Rattle.line.specs.Opening.{asked_for}
 use Rattle.line.proofs.Laws.Opening.{no-direction, no-rate-in, no-rate-out, stays-shut}
 use Rattle.line.proofs.opening.open.Goals as goal
 
