@@ -1,7 +1,6 @@
 // One call of the program `convert`: up to 100 ms of bytes in, the bytes of what they make out. Meaning: specs/Call.antt.
 ghost use Rattle.std.specs.Prelude.{◌≡◌, ◌*◌, ◌≤◌, length, take};
 ghost use Rattle.stages.specs.Outcome.{over};
-ghost use Rattle.resampler.specs.Pairs.{supported};
 ghost use Rattle.resampler.specs.Record.{pair_of};
 ghost use Rattle.resampler.specs.Resample.{made, converted, after, Calling};
 ghost use Rattle.little_endian.specs.Bytes.{laid, words_at};

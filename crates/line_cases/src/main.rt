@@ -38,13 +38,13 @@ const BLOCKS: [Case; 21] = [
 const LEFT: [usize; 6] = [1, 9, 10, 95, 100, usize::MAX];
 
 fn refused(rt: &HostRuntime, row: u8) -> io::Result<()> {
-    let mut text = [0; 48];
+    let mut text = [0; message::ROOM];
     let n = message::refused(&mut text, row);
     rt.write_all(&text[..n])
 }
 
 fn left_over(rt: &HostRuntime, bytes: usize) -> io::Result<()> {
-    let mut text = [0; 48];
+    let mut text = [0; message::ROOM];
     let n = message::left_over(&mut text, bytes);
     rt.write_all(&text[..n])
 }
