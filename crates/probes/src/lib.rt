@@ -5,9 +5,8 @@
 
 ghost use Rattle.std.specs.Prelude.{◌≡◌, true, ◌*◌, ◌%◌, ◌<◌, ◌≤◌};
 ghost use Rattle.filters.specs.Reader.{outputs, Steady};
-ghost use Rattle.filters.specs.Stage.DownFir.{Fitting};
 
-use stages::{Rates, rom};
+use stages::{Filter, Rates};
 
 // The words of the doubler.
 #[repr(C)]
@@ -76,21 +75,19 @@ fn fits(r: Rates, n: usize, room: usize) -> bool
 
 fn down(
     r: Rates,
-    cs: &[i64],
-    order: usize,
-    rows: usize,
+    f: Filter<'_>,
     words: DownWords,
     out: &mut [i16],
     input: &[i16],
 ) -> DownPass
-    requires { Fitting order rows cs.now × Steady r.inKhz r × (r.outKhz ≤ 16) × (0 < r.outKhz) }
+    requires { Steady r.inKhz r × (r.outKhz ≤ 16) × (0 < r.outKhz) }
 {
     if !fits(r, input.len(), out.len()) {
         return DownPass { written: 0, words };
     }
     let DownWords { ar2, fir } = words;
     let s = stages::DownWords { ar2, fir };
-    let q = stages::silk_resampler_private_down_FIR(r, cs, order, rows, s, out, input);
+    let q = stages::silk_resampler_private_down_FIR(r, f, s, out, input);
     let stages::DownWords { ar2, fir } = q.words;
     DownPass {
         written: q.written,
@@ -105,7 +102,7 @@ pub extern "C" fn probe_down_16_12(words: DownWords, out: &mut [i16], input: &[i
         outKhz: 12,
         increment: 87382,
     };
-    down(r, &rom::silk_Resampler_3_4_COEFS, 18, 3, words, out, input)
+    down(r, stages::DOWN_3_4, words, out, input)
 }
 
 #[unsafe(no_mangle)]
@@ -115,7 +112,7 @@ pub extern "C" fn probe_down_12_8(words: DownWords, out: &mut [i16], input: &[i1
         outKhz: 8,
         increment: 98304,
     };
-    down(r, &rom::silk_Resampler_2_3_COEFS, 18, 2, words, out, input)
+    down(r, stages::DOWN_2_3, words, out, input)
 }
 
 #[unsafe(no_mangle)]
@@ -125,7 +122,7 @@ pub extern "C" fn probe_down_16_8(words: DownWords, out: &mut [i16], input: &[i1
         outKhz: 8,
         increment: 131072,
     };
-    down(r, &rom::silk_Resampler_1_2_COEFS, 24, 1, words, out, input)
+    down(r, stages::DOWN_1_2, words, out, input)
 }
 
 #[unsafe(no_mangle)]
@@ -135,7 +132,7 @@ pub extern "C" fn probe_down_48_16(words: DownWords, out: &mut [i16], input: &[i
         outKhz: 16,
         increment: 196608,
     };
-    down(r, &rom::silk_Resampler_1_3_COEFS, 36, 1, words, out, input)
+    down(r, stages::DOWN_1_3, words, out, input)
 }
 
 #[unsafe(no_mangle)]
@@ -145,7 +142,7 @@ pub extern "C" fn probe_down_48_12(words: DownWords, out: &mut [i16], input: &[i
         outKhz: 12,
         increment: 262144,
     };
-    down(r, &rom::silk_Resampler_1_4_COEFS, 36, 1, words, out, input)
+    down(r, stages::DOWN_1_4, words, out, input)
 }
 
 #[unsafe(no_mangle)]
@@ -155,7 +152,7 @@ pub extern "C" fn probe_down_48_8(words: DownWords, out: &mut [i16], input: &[i1
         outKhz: 8,
         increment: 393216,
     };
-    down(r, &rom::silk_Resampler_1_6_COEFS, 36, 1, words, out, input)
+    down(r, stages::DOWN_1_6, words, out, input)
 }
 
 fn up(r: Rates, words: UpWords, out: &mut [i16], input: &[i16]) -> UpPass

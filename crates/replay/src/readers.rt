@@ -1,10 +1,10 @@
 // Runs of the stages that are told their rates, the interpolator and the down filters, in the manner of runs.rt.
-ghost use Rattle.std.specs.Prelude.{◌≡◌, true, ◌*◌, ◌%◌, ◌≤◌, ◌<◌, length};
-ghost use Rattle.filters.specs.Reader.{outputs, Steady, Small as SmallTaps};
+ghost use Rattle.std.specs.Prelude.{◌≡◌, true, ◌*◌, ◌%◌, ◌≤◌, ◌<◌};
+ghost use Rattle.filters.specs.Reader.{outputs, Steady};
 ghost use Rattle.replay.specs.Small.{Small};
 
 use crate::{file, runs};
-use stages::{DownPass, DownWords, IirFirWords, Rates, rom};
+use stages::{DownWords, Filter, IirFirWords, Rates};
 use std::fs::File;
 use std::{array, io};
 
@@ -70,13 +70,14 @@ pub fn iir_fir(
     Ok(outputs & file::same(from, &q.words.samples)?)
 }
 
-fn order(which: i32) -> usize
-    ensures { result ≤ 36 }
-{
+fn filter(which: i32) -> Filter<'static> {
     match which {
-        0 | 1 => 18,
-        2 => 24,
-        _ => 36,
+        0 => stages::DOWN_3_4,
+        1 => stages::DOWN_2_3,
+        2 => stages::DOWN_1_2,
+        3 => stages::DOWN_1_3,
+        4 => stages::DOWN_1_4,
+        _ => stages::DOWN_1_6,
     }
 }
 
@@ -95,54 +96,6 @@ fn down_words(given: &[i32; 48], n: usize) -> DownWords {
     }
 }
 
-// The tables of order 36.
-fn coefs_36(which: i32) -> [i64; 20]
-    ensures { (length result ≡ 20) × SmallTaps result }
-{
-    match which {
-        3 => rom::silk_Resampler_1_3_COEFS,
-        4 => rom::silk_Resampler_1_4_COEFS,
-        _ => rom::silk_Resampler_1_6_COEFS,
-    }
-}
-
-// A pass of one of the six down filters.
-fn down(which: i32, r: Rates, s: DownWords, out: &mut [i16], input: &[i16]) -> DownPass
-    requires steady { Steady r.inKhz r × (r.outKhz ≤ 16) }
-    requires in_khz_len { (length input.now % r.inKhz ≡ 0) × (outputs r (length input.now) ≤ length out.old) }
-{
-    match which {
-        0 => stages::silk_resampler_private_down_FIR(
-            r,
-            &rom::silk_Resampler_3_4_COEFS,
-            18,
-            3,
-            s,
-            out,
-            input,
-        ),
-        1 => stages::silk_resampler_private_down_FIR(
-            r,
-            &rom::silk_Resampler_2_3_COEFS,
-            18,
-            2,
-            s,
-            out,
-            input,
-        ),
-        2 => stages::silk_resampler_private_down_FIR(
-            r,
-            &rom::silk_Resampler_1_2_COEFS,
-            24,
-            1,
-            s,
-            out,
-            input,
-        ),
-        _ => stages::silk_resampler_private_down_FIR(r, &coefs_36(which), 36, 1, s, out, input),
-    }
-}
-
 pub fn down_fir(
     from: &mut File,
     given: &[i32; 48],
@@ -153,10 +106,10 @@ pub fn down_fir(
     if 16 < r.outKhz || !takes(r, r.inKhz, input.len(), out.len()) {
         return Ok(false);
     }
-    let which = runs::word(given, 0);
-    let n = order(which);
-    let q = down(which, r, down_words(given, n), out, input);
+    let f = filter(runs::word(given, 0));
+    let s = down_words(given, f.order);
+    let q = stages::silk_resampler_private_down_FIR(r, f, s, out, input);
     let written = runs::all_but(2, q.written, out.len());
     let outputs = runs::same_written(from, written, out, &q.words.ar2)?;
-    Ok(outputs & file::same(from, &q.words.fir[..n])?)
+    Ok(outputs & file::same(from, &q.words.fir[..f.order])?)
 }
