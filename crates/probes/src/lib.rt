@@ -73,13 +73,7 @@ fn fits(r: Rates, n: usize, room: usize) -> bool
     n % r.inKhz == 0 && n / r.inKhz <= room / r.outKhz
 }
 
-fn down(
-    r: Rates,
-    f: Filter<'_>,
-    words: DownWords,
-    out: &mut [i16],
-    input: &[i16],
-) -> DownPass
+fn down(r: Rates, f: Filter<'_>, words: DownWords, out: &mut [i16], input: &[i16]) -> DownPass
     requires { Steady r.inKhz r × (r.outKhz ≤ 16) × (0 < r.outKhz) }
 {
     if !fits(r, input.len(), out.len()) {
