@@ -92,11 +92,11 @@ row-fits rows order cs k e f h = let g : Fitting 18 rows cs = rw e at f in part 
 
 -- the orders above it: the only row
 pub first-fits : (rows order : ℕ) (cs ys : List ℤ) → 18 < order → Fitting order rows cs → order ≤ length ys →
-    (length (take (2 + order / 2 - 2) (drop 2 cs)) % 3 ≡ 0) × (length (take (2 + order / 2 - 2) (drop 2 cs)) ≡ length (take order ys) / 2) × Small (take (2 + order / 2 - 2) (drop 2 cs))
+    (length (take (2 + order / 2 - 2) (drop 2 cs)) % 3 ≡ 0) × (length (take (2 + order / 2 - 2) (drop 2 cs)) ≤ 18) × (length (take (2 + order / 2 - 2) (drop 2 cs)) ≡ length (take order ys) / 2) × Small (take (2 + order / 2 - 2) (drop 2 cs))
 first-fits rows order cs ys h f l =
     let m = mul-le-mul_left (order / 2) f.some in
     let (n, s) = part cs 2 (2 + order / 2 - 2) (order / 2) f.small (omega arith) (omega (arith, f.entries)) in
-    (rw n (f.threes h), n ∙ rw (length-take-le order ys l) refl, s)
+    (rw n (f.threes h), omega (arith, f.most), n ∙ rw (length-take-le order ys l) refl, s)
 
 -- what an output reads from the flat table is the definition's
 module _ (rows order : ℕ) (cs ys : List ℤ) (f : Fitting order rows cs) (l : order ≤ length ys) where

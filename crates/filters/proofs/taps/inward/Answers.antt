@@ -11,6 +11,9 @@ use Rattle.filters.proofs.Laws.Dot.{sum-none, sum-next, outer-at}
 use Rattle.filters.proofs.Laws.Taps.{every-at}
 use Rattle.filters.proofs.taps.inward.Goals as goal
 
+pub three_inward-all-requires : goal.three_inward-all-requires
+three_inward-all-requires c = (omega arith, c.requires.2, c.requires.3)
+
 pub loop-turn-preserved : goal.loop-turn-preserved
 loop-turn-preserved c =
     let e : 3 * (c.loop-turn.turn + 1) ≡ 3 * c.loop-turn.turn + 3 = omega arith in
