@@ -16,14 +16,16 @@ fn bands(words: [i32; 2], low: &mut [i16], high: &mut [i16], input: &[i16]) -> [
     ensures low { Staged (split_low words input.now) (split_end words input.now) low.old low.new result }
     ensures high { Staged (split_high words input.now) (split_end words input.now) high.old high.new result }
 {
-    let mut w = words;
+    let [mut even, mut odd] = words;
     for (k, xs) in input.chunks_exact(2).enumerate() {
-        let b = step(w, xs[0], xs[1]);
+        let b = step([even, odd], xs[0], xs[1]);
         low[k] = b.low;
         high[k] = b.high;
-        w = b.words;
+        let [e, o] = b.words;
+        even = e;
+        odd = o;
     }
-    w
+    [even, odd]
 }
 
 // Takes an even number of samples, at most 48,000, and two outputs of just half as many places.

@@ -19,13 +19,15 @@ fn sums(words: [i32; 2], out: &mut [i32], input: &[i16]) -> [i32; 2]
     requires { length input.now / 2 ≤ length out.old }
     ensures { Staged (run down2_sum down2_next words (pairs input.now)) (down2_end words input.now) out.old out.new result }
 {
-    let mut w = words;
+    let [mut even, mut odd] = words;
     for (k, xs) in input.chunks_exact(2).enumerate() {
-        let d = step(w, xs[0], xs[1]);
+        let d = step([even, odd], xs[0], xs[1]);
         out[k] = d.sum;
-        w = d.words;
+        let [e, o] = d.words;
+        even = e;
+        odd = o;
     }
-    w
+    [even, odd]
 }
 
 // The decimator, in parts of at most 960 samples.
