@@ -1,7 +1,6 @@
 // A call: whole milliseconds in, whole milliseconds out, in two passes. From silk_resampler of silk/resampler/mod.rs. Meaning:
 // specs/Resample.antt and specs/Entry.antt. Unlike the Rust, this refuses what it can't convert, and the record goes by value.
 ghost use Rattle.std.specs.Prelude.{◌≡◌, ◌≤◌, length};
-ghost use Rattle.filters.specs.Lists.{padded};
 ghost use Rattle.stages.specs.Outcome.{outcome, answer_of, row, Staged};
 ghost use Rattle.resampler.specs.Entry as Entry;
 ghost use Rattle.resampler.specs.Record.{pair_of};
@@ -46,16 +45,6 @@ fn refusal_of(known: &Known, n: usize, room: usize) -> Option<Refusal>
     }
 }
 
-// The samples that are carried on, with zeros behind them.
-fn kept(tail: &[i16]) -> [i16; 48]
-    requires { length tail.now ≤ 48 }
-    ensures { result ≡ padded 48 tail.now }
-{
-    let mut delay = [0; 48];
-    delay[..tail.len()].copy_from_slice(tail);
-    delay
-}
-
 // A call that is not refused: the first millisecond, which is the samples carried over, d of them, and as many of the input as it
 // lacks; the rest of what is filtered; and what is carried on.
 fn call(known: Known, out: &mut [i16], input: &[i16]) -> Record
@@ -73,7 +62,7 @@ fn call(known: Known, out: &mut [i16], input: &[i16]) -> Record
         rest: &input[inKhz - d..end],
     };
     Record {
-        delay: kept(&input[end..]),
+        delay: stages::carried(0, &input[end..]),
         ..passes::both(parts, out)
     }
 }
