@@ -6,29 +6,13 @@
 ghost use Rattle.std.specs.Prelude.{◌≡◌, true, ◌*◌, ◌%◌, ◌<◌, ◌≤◌};
 ghost use Rattle.filters.specs.Reader.{outputs, Steady};
 
-use stages::{Filter, Rates};
+use stages::{DownWords, Filter, IirFirWords, Rates};
 
 // The words of the doubler.
 #[repr(C)]
 #[derive(Clone, Copy)]
 pub struct Six {
     pub w: [i32; 6],
-}
-
-// Of a down filter: the words of AR2, and the carried ones, of which the first as many as the order are live.
-#[repr(C)]
-#[derive(Clone, Copy)]
-pub struct DownWords {
-    pub ar2: [i32; 2],
-    pub fir: [i32; 36],
-}
-
-// Of the interpolator: the words of the doubler, and the last eight doubled samples.
-#[repr(C)]
-#[derive(Clone, Copy)]
-pub struct UpWords {
-    pub doubler: [i32; 6],
-    pub samples: [i16; 8],
 }
 
 // How many samples were written, and the words after them.
@@ -50,7 +34,7 @@ pub struct DownPass {
 #[derive(Clone, Copy)]
 pub struct UpPass {
     pub written: usize,
-    pub words: UpWords,
+    pub words: IirFirWords,
 }
 
 #[unsafe(no_mangle)]
@@ -79,13 +63,10 @@ fn down(r: Rates, f: Filter<'_>, words: DownWords, out: &mut [i16], input: &[i16
     if !fits(r, input.len(), out.len()) {
         return DownPass { written: 0, words };
     }
-    let DownWords { ar2, fir } = words;
-    let s = stages::DownWords { ar2, fir };
-    let q = stages::silk_resampler_private_down_FIR(r, f, s, out, input);
-    let stages::DownWords { ar2, fir } = q.words;
+    let q = stages::silk_resampler_private_down_FIR(r, f, words, out, input);
     DownPass {
         written: q.written,
-        words: DownWords { ar2, fir },
+        words: q.words,
     }
 }
 
@@ -149,24 +130,21 @@ pub extern "C" fn probe_down_48_8(words: DownWords, out: &mut [i16], input: &[i1
     down(r, stages::DOWN_1_6, words, out, input)
 }
 
-fn up(r: Rates, words: UpWords, out: &mut [i16], input: &[i16]) -> UpPass
+fn up(r: Rates, words: IirFirWords, out: &mut [i16], input: &[i16]) -> UpPass
     requires { Steady (2 * r.inKhz) r × (r.inKhz ≤ 16) × (0 < r.outKhz) }
 {
     if !fits(r, input.len(), out.len()) {
         return UpPass { written: 0, words };
     }
-    let UpWords { doubler, samples } = words;
-    let s = stages::IirFirWords { doubler, samples };
-    let q = stages::silk_resampler_private_IIR_FIR(r, s, out, input);
-    let stages::IirFirWords { doubler, samples } = q.words;
+    let q = stages::silk_resampler_private_IIR_FIR(r, words, out, input);
     UpPass {
         written: q.written,
-        words: UpWords { doubler, samples },
+        words: q.words,
     }
 }
 
 #[unsafe(no_mangle)]
-pub extern "C" fn probe_up_8_12(words: UpWords, out: &mut [i16], input: &[i16]) -> UpPass {
+pub extern "C" fn probe_up_8_12(words: IirFirWords, out: &mut [i16], input: &[i16]) -> UpPass {
     let r = Rates {
         inKhz: 8,
         outKhz: 12,
@@ -176,7 +154,7 @@ pub extern "C" fn probe_up_8_12(words: UpWords, out: &mut [i16], input: &[i16]) 
 }
 
 #[unsafe(no_mangle)]
-pub extern "C" fn probe_up_8_24(words: UpWords, out: &mut [i16], input: &[i16]) -> UpPass {
+pub extern "C" fn probe_up_8_24(words: IirFirWords, out: &mut [i16], input: &[i16]) -> UpPass {
     let r = Rates {
         inKhz: 8,
         outKhz: 24,
@@ -186,7 +164,7 @@ pub extern "C" fn probe_up_8_24(words: UpWords, out: &mut [i16], input: &[i16]) 
 }
 
 #[unsafe(no_mangle)]
-pub extern "C" fn probe_up_8_48(words: UpWords, out: &mut [i16], input: &[i16]) -> UpPass {
+pub extern "C" fn probe_up_8_48(words: IirFirWords, out: &mut [i16], input: &[i16]) -> UpPass {
     let r = Rates {
         inKhz: 8,
         outKhz: 48,
@@ -196,7 +174,7 @@ pub extern "C" fn probe_up_8_48(words: UpWords, out: &mut [i16], input: &[i16]) 
 }
 
 #[unsafe(no_mangle)]
-pub extern "C" fn probe_up_12_16(words: UpWords, out: &mut [i16], input: &[i16]) -> UpPass {
+pub extern "C" fn probe_up_12_16(words: IirFirWords, out: &mut [i16], input: &[i16]) -> UpPass {
     let r = Rates {
         inKhz: 12,
         outKhz: 16,
@@ -206,7 +184,7 @@ pub extern "C" fn probe_up_12_16(words: UpWords, out: &mut [i16], input: &[i16])
 }
 
 #[unsafe(no_mangle)]
-pub extern "C" fn probe_up_12_48(words: UpWords, out: &mut [i16], input: &[i16]) -> UpPass {
+pub extern "C" fn probe_up_12_48(words: IirFirWords, out: &mut [i16], input: &[i16]) -> UpPass {
     let r = Rates {
         inKhz: 12,
         outKhz: 48,
@@ -216,7 +194,7 @@ pub extern "C" fn probe_up_12_48(words: UpWords, out: &mut [i16], input: &[i16])
 }
 
 #[unsafe(no_mangle)]
-pub extern "C" fn probe_up_16_24(words: UpWords, out: &mut [i16], input: &[i16]) -> UpPass {
+pub extern "C" fn probe_up_16_24(words: IirFirWords, out: &mut [i16], input: &[i16]) -> UpPass {
     let r = Rates {
         inKhz: 16,
         outKhz: 24,
@@ -226,7 +204,7 @@ pub extern "C" fn probe_up_16_24(words: UpWords, out: &mut [i16], input: &[i16])
 }
 
 #[unsafe(no_mangle)]
-pub extern "C" fn probe_up_16_48(words: UpWords, out: &mut [i16], input: &[i16]) -> UpPass {
+pub extern "C" fn probe_up_16_48(words: IirFirWords, out: &mut [i16], input: &[i16]) -> UpPass {
     let r = Rates {
         inKhz: 16,
         outKhz: 48,

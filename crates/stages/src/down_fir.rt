@@ -15,6 +15,7 @@ use filters::down_fir::Filter;
 use filters::rates::Rates;
 
 // The words of a down filter: those of AR2, and the carried ones, of which the first `order` are live.
+#[repr(C)]
 #[derive(Clone, Copy)]
 pub struct DownWords {
     pub ar2: [i32; 2],

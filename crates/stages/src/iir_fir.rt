@@ -14,6 +14,7 @@ use filters::iir_fir::Interpolation;
 use filters::rates::Rates;
 
 // The words of the interpolator: those of the doubler, and the last eight doubled samples.
+#[repr(C)]
 #[derive(Clone, Copy)]
 pub struct IirFirWords {
     pub doubler: [i32; 6],
