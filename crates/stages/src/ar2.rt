@@ -17,10 +17,21 @@ pub fn silk_resampler_private_AR2(
     requires { (length input.now ≤ length outQ8.old) × (2 ≤ length AQ14.now) × (nat_abs (AQ14.now ! 0) < 65536) × (nat_abs (AQ14.now ! 1) < 65536) }
     ensures { Staged (ar2 AQ14.now state input.now) (ar2_end AQ14.now state input.now) outQ8.old outQ8.new result }
 {
+    let pairs = input.chunks_exact(2);
+    let last = pairs.remainder();
     let mut s = state;
-    for (k, x) in input.iter().enumerate() {
+    for (k, xs) in pairs.enumerate() {
+        let first = filtered(s, xs[0]);
+        outQ8[2 * k] = first;
+        let between = moved(s, first, AQ14);
+        let second = filtered(between, xs[1]);
+        outQ8[2 * k + 1] = second;
+        let next = moved(between, second, AQ14);
+        s = next;
+    }
+    if let [x] = last {
         let out32 = filtered(s, *x);
-        outQ8[k] = out32;
+        outQ8[input.len() - 1] = out32;
         let next = moved(s, out32, AQ14);
         s = next;
     }

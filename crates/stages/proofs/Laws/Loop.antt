@@ -127,6 +127,11 @@ module _ {S A B : Type 0} (out : S → A → B) (next : S → A → S) (s₀ : S
   pub run-start : length xs ≤ length before → Running 0 before s₀ xs
   run-start h = record { room = h; filling = fill_start (run out next s₀ xs) before; state = refl }
 
+  -- so many inputs are left
+  pub run-left : {k : ℕ} {o : List B} {s : S} {left : List A} → Running k o s left → k + length left ≡ length xs
+  run-left {k} {o} {s} {left} r =
+      omega (arith, ap length r.filling.filled, length-append (take k o) (run out next s left), length-take-le k o r.filling.within, run_length out next s left, run_length out next s₀ xs)
+
   module _ {k : ℕ} {o : List B} {s : S} {at left : List A} {x : A} (first : at ≡ x ∷ left) (r : Running k o s at) where
     turned : Running k o s (x ∷ left)
     turned = rw first at r
