@@ -100,6 +100,16 @@ module _ {S A B : Type 0} (out : S → List A → List B) (next : S → List A �
   unfolding pass_out pass_end cut
   pass-whole s xs = pieces_whole (length xs) s xs (omega arith)
 
+  pub whole-start : (s : S) (xs : List A) {before : List B} → length (out s xs) ≤ length before → Passing out next n xs before s 0 before s xs
+  whole-start s xs h = pass-start out next n xs _ s (rw (pass-whole s xs).0 h)
+
+  pub whole-end : {s₀ s : S} {xs left : List A} {before o : List B} {done : ℕ} → left ≡ [] → Passing out next n xs before s₀ done o s left
+      → (o ≡ over (out s₀ xs) before) × (s ≡ next s₀ xs)
+  whole-end {s₀} {s} {xs} {before = before} h f =
+      let (a, b, c) = pass-end out next n xs before s₀ h f in
+      let (o, e) = pass-whole s₀ xs in
+      (a ∙ ap (λ (t : List B). over t before) o, b ∙ e)
+
 -- ---- whole units, k samples each
 
 -- of m of them, a batch takes t, at most `most`
