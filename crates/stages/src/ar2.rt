@@ -8,6 +8,7 @@ ghost use Rattle.filters.specs.Stage.Ar2.{ar2, ar2_end};
 use fixed::ar2::{filtered, moved};
 
 // Filters the input into the front of the output and returns the words after it. AQ14 is a table that begins with A0 and A1.
+// Two samples a turn, with the words as two numbers, take fewer instructions than one.
 pub fn silk_resampler_private_AR2(
     state: [i32; 2],
     outQ8: &mut [i32],
@@ -19,21 +20,23 @@ pub fn silk_resampler_private_AR2(
 {
     let pairs = input.chunks_exact(2);
     let last = pairs.remainder();
-    let mut s = state;
+    let [mut s0, mut s1] = state;
     for (k, xs) in pairs.enumerate() {
+        let s = [s0, s1];
         let first = filtered(s, xs[0]);
         outQ8[2 * k] = first;
         let between = moved(s, first, AQ14);
         let second = filtered(between, xs[1]);
         outQ8[2 * k + 1] = second;
-        let next = moved(between, second, AQ14);
-        s = next;
+        let [a, b] = moved(between, second, AQ14);
+        s0 = a;
+        s1 = b;
     }
+    let s = [s0, s1];
     if let [x] = last {
         let out32 = filtered(s, *x);
         outQ8[input.len() - 1] = out32;
-        let next = moved(s, out32, AQ14);
-        s = next;
+        return moved(s, out32, AQ14);
     }
     s
 }

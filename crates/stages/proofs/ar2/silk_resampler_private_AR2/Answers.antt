@@ -1,9 +1,8 @@
 -- `stages::ar2::silk_resampler_private_AR2` meets its contract: what is filtered, followed by what the samples left make, is the whole.
 -- Assumes nothing.
-use Rattle.std.proofs.Common.{rules, arith, ◌≡◌, ◌∙◌, length, drop, ◌*◌, ◌+◌, ◌-◌, ◌%◌, ◌/◌, ◌<◌, refl, sym, ap, List, ◌∷◌, ◌++◌, [], ℤ, ℕ}
+use Rattle.std.proofs.Common.{rules, arith, ◌≡◌, ◌∙◌, length, drop, ◌*◌, ◌+◌, ◌-◌, ◌%◌, ◌<◌, refl, sym, ap, List, ◌∷◌, ◌++◌, [], ℤ, ℕ}
 use mir.Val.{to_z, of_z}
-use mir.Syntax.{w16, w32}
-use lib.ListN.{length-drop}
+use mir.Syntax.{w32}
 use lib.Seq.{drop-drop}
 use Rattle.filters.specs.Lists.{◌!◌, tabulate}
 use Rattle.fixed.specs.Ar2.{ar2_out, ar2_next, ar2_after}
@@ -21,11 +20,14 @@ loop-k-preserved c =
     let k = c.loop-k.k-iterator.count in
     let rest = c.next.new.self.iter.rest.now in
     let inv = c.loop-k.invariant in
+    let w = to_z w32 c.loop-k.s0-bits ∷ to_z w32 c.loop-k.s1-bits ∷ [] in
+    let after = c.moved.result in
+    let all-words = spelt 2 after (omega (arith, c.well_formed)) in
     let two : c.loop-k.k-iterator.iter.rest.now ≡ xs ! 0 ∷ xs ! 1 ∷ rest = s.0.1.0 ∙ ap (λ (t : List ℤ). t ++ rest) (spelt 2 xs (s.0.1.1 ∙ inv.0)) in
-    let out : to_z w32 (of_z w32 c.filtered-first.result) ≡ ar2_out c.loop-k.s (xs ! 0) = search rules in
-    let words : c.moved-between.result ≡ ar2_after A c.loop-k.s (ar2_out c.loop-k.s (xs ! 0)) = search rules in
+    let out : to_z w32 (of_z w32 c.filtered-first.result) ≡ ar2_out w (xs ! 0) = search rules in
+    let words : c.moved-between.result ≡ ar2_after A w (ar2_out w (xs ! 0)) = search rules in
     let out-2 : to_z w32 (of_z w32 c.filtered-second.result) ≡ ar2_out c.moved-between.result (xs ! 1) = search rules in
-    let words-2 : c.moved-next.result ≡ ar2_after A c.moved-between.result (ar2_out c.moved-between.result (xs ! 1)) = search rules in
+    let words-2 : to_z w32 (of_z w32 (after ! 0)) ∷ to_z w32 (of_z w32 (after ! 1)) ∷ [] ≡ ar2_after A c.moved-between.result (ar2_out c.moved-between.result (xs ! 1)) = search rules in
     let one = run-turn ar2_out (ar2_next A) c.args.state c.args.input.now c.args.outQ8.now two inv.2 out words in
     let both = run-turn ar2_out (ar2_next A) c.args.state c.args.input.now c.args.outQ8.now refl one out-2 words-2 in
     let on : 2 * k + 1 + 1 ≡ 2 * (k + 1) = omega arith in
@@ -56,11 +58,12 @@ returns-in-len1 c =
     let xs = c.args.input.now in
     let ys = c.remainder-last.result.now in
     let inv = c.loop-k.invariant in
+    let w = to_z w32 c.loop-k.s0-bits ∷ to_z w32 c.loop-k.s1-bits ∷ [] in
     let l = run-left ar2_out (ar2_next A) c.args.state xs c.args.outQ8.now inv.2 in
     let same = left-over xs c.loop-k.k-iterator.count inv.1 l c.in-None.ensures.steps.0.1.0 inv.0 (c.remainder-last.ensures ∙ c.chunks_exact-pairs.ensures.remainder) in
     let one : c.loop-k.k-iterator.iter.rest.now ≡ ys ! 0 ∷ [] = same ∙ spelt 1 ys (omega (arith, c.in-len1.len_at_least, c.in-len1.len_below)) in
-    let out : to_z w32 (of_z w32 c.filtered-out32.result) ≡ ar2_out c.loop-k.s (ys ! 0) = search rules in
-    let words : c.moved-next-in-len1.result ≡ ar2_after A c.loop-k.s (ar2_out c.loop-k.s (ys ! 0)) = search rules in
+    let out : to_z w32 (of_z w32 c.filtered-out32.result) ≡ ar2_out w (ys ! 0) = search rules in
+    let words : c.moved-in-len1.result ≡ ar2_after A w (ar2_out w (ys ! 0)) = search rules in
     let m = ap length one in
     let e : length xs - 1 ≡ 2 * c.loop-k.k-iterator.count = omega arith in
     let turn = run-turn ar2_out (ar2_next A) c.args.state xs c.args.outQ8.now one inv.2 out words in
