@@ -102,10 +102,6 @@ down2-length w xs = run_length down2_out down2_next w _ ∙ pairs-length xs
 pub down2-counts : (w xs : List ℤ) → length (down2 w xs) ≡ length xs / 2 * 1
 down2-counts w xs = down2-length w xs ∙ omega arith
 
-pub down2_end-length : (w xs : List ℤ) → length w ≡ 2 → length (down2_end w xs) ≡ 2
-unfolding down2_end down2_next halves_next
-down2_end-length w xs h = end-keeps down2_next (λ v. length v ≡ 2) (λ v x k. refl) w _ h
-
 pub split_low-length : (w xs : List ℤ) → length (split_low w xs) ≡ length xs / 2
 unfolding split_low
 split_low-length w xs = run_length low_out split_next w _ ∙ pairs-length xs

@@ -179,23 +179,6 @@ pairs-length [] = refl
 pairs-length (x ∷ []) = refl
 pairs-length (x ∷ y ∷ xs) = ap suc (pairs-length xs) ∙ omega arith
 
-pub pairs_next : {A : Type 0} (xs : List A) (k : ℕ) (d : A) → 2 * k + 1 < length xs
-    → pairs (drop (2 * k) xs) ≡ (get_or xs (2 * k) d, get_or xs (2 * k + 1) d) ∷ pairs (drop (2 * (k + 1)) xs)
-unfolding pairs
-pairs_next xs k d h =
-    let e : 2 * (k + 1) ≡ suc (suc (2 * k)) = omega arith in
-    let f : 2 * k + 1 ≡ suc (2 * k) = omega arith in
-    rw (drop-cons xs (2 * k) d (omega arith), drop-cons xs (suc (2 * k)) d (omega arith), e, f)
-
-pub pairs-none : {A : Type 0} (xs : List A) (k : ℕ) → length xs ≤ 2 * k + 1 → pairs (drop (2 * k) xs) ≡ []
-unfolding pairs
-pairs-none xs k h = empty (drop (2 * k) xs) (omega (arith, length-drop (2 * k) xs))
-  where
-    empty : {A : Type 0} (ys : List A) → length ys ≤ 1 → pairs ys ≡ []
-    empty [] l = refl
-    empty (y ∷ []) l = refl
-    empty (y ∷ z ∷ ys) l = absurd (omega arith)
-
 twice : (m : ℕ) → 2 * suc m ≡ suc (suc (2 * m))
 twice m = omega arith
 

@@ -47,9 +47,6 @@ every-last t all (y ∷ xs) x e h =
     let (c, d) = every-last t (xs ++ x ∷ []) xs x refl b in
     (c, rw (a, d) refl)
 
-pub small_at : (cs : List ℤ) (k : ℕ) → Small cs → k < length cs → nat_abs (cs ! k) < 65536
-small_at cs k h l = ltb-true _ 65536 (every-at (λ c. ltb (nat_abs c) 65536) cs k (pos 0) h l)
-
 -- ---- the rows of a down filter
 
 -- the row of a fraction is one of the rows
@@ -129,10 +126,6 @@ module _ (rows order : ℕ) (cs ys : List ℤ) (f : Fitting order rows cs) (l : 
 pub frac-width : (k : ℕ) → k < 12 → length (get_or silk_resampler_frac_FIR_12 k []) ≡ 4
 unfolding silk_resampler_frac_FIR_12
 frac-width k h = eqb-true _ 4 (every-at (λ row. eqb (length row) 4) silk_resampler_frac_FIR_12 k [] refl h)
-
-pub frac-small : (k : ℕ) → k < 12 → Small (get_or silk_resampler_frac_FIR_12 k [])
-unfolding silk_resampler_frac_FIR_12
-frac-small k h = every-at (λ row. every (λ c. ltb (nat_abs c) 65536) row) silk_resampler_frac_FIR_12 k [] refl h
 
 pub frac-mirrored : (fraction : ℕ) → let k = fraction * 12 / 65536 in
     mirrored silk_resampler_frac_FIR_12 fraction ≡ get_or silk_resampler_frac_FIR_12 k [] ++ reverse (get_or silk_resampler_frac_FIR_12 (11 - k) [])

@@ -16,33 +16,6 @@ use Rattle.fixed.specs.Fixed.{times}
 use Rattle.fixed.proofs.Laws.Integer.{P, N, pn-sum, pn-abs, p-neg, n-neg, p_mul, n-mul, p-scale, n-scale, shr-floor}
 use Rattle.fixed.proofs.Laws.Wrap.{fits-pn}
 
--- ---- reading back
-
--- what the machine reads of x at a width
-abbrev pub at : Width → ℤ → ℤ
-at w x = to_z w (of_z w x)
-
--- the result of a call, an element or a field, of which `mag z` is known to be in range: `back w32 z h`
-pub back : (w : Width) (z : ℤ) → mag z < 2 ^ hbits w → at w z ≡ z
-back w z h = to_z-of_z (record { sfits = h })
-
--- what is z, and z fits
-pub rd : {w : Width} {x z : ℤ} → x ≡ z → SFits w z → at w x ≡ z
-rd {w} e f = to_z-of_z (subst (SFits w) (sym e) f) ∙ e
-
-pub fit : {w : Width} {x z : ℤ} → x ≡ z → SFits w z → SFits w x
-fit {w} e f = subst (SFits w) (sym e) f
-
--- a cast to a wider type: `search (rules, widen)`, `widen16`; and what it gives
-pub widen : {x : ℤ} → SFits w32 x → SFits w64 x
-widen f = sfits_widen tt f
-
-pub widen16 : {x : ℤ} → SFits w16 x → SFits w32 x
-widen16 f = sfits_widen tt f
-
-pub cast : (v w : Width) {x : ℤ} → T (leb (hbits v) (hbits w)) → SFits v x → at w (at v x) ≡ x
-cast v w t f = rd (to_z-of_z f) (sfits_widen t f)
-
 -- ---- ranges
 
 -- z is in range where neither part, less the other, passes the bound
@@ -51,34 +24,8 @@ unfolding P N
 in-range w (pos n) h k = record { sfits = omega arith }
 in-range w (negsuc n) h k = record { sfits = omega arith }
 
-pub sum_fits : {x y : ℤ} → SFits w32 x → SFits w32 y → SFits w64 (x +ℤ y)
-sum_fits {x} {y} f g =
-    let s = pn-sum x y in
-    let a = fits-pn w32 x f in
-    let b = fits-pn w32 y g in
-    in-range w64 (x +ℤ y) (omega arith) (omega arith)
-
-pub diff-fits : {x y : ℤ} → SFits w32 x → SFits w32 y → SFits w64 (x -ℤ y)
-diff-fits {x} {y} f g =
-    let s = pn-sum x (neg_ℤ y) in
-    let p = p-neg y in
-    let n = n-neg y in
-    let a = fits-pn w32 x f in
-    let b = fits-pn w32 y g in
-    in-range w64 (x -ℤ y) (omega arith) (omega arith)
-
 pub shr-fits : (w : Width) (z : ℤ) (m : ℕ) → SFits w z → SFits w (shr_z z m)
 shr-fits w z m f = record { sfits = NatL.lt_of_le_of_lt (mag_shr z m) f.sfits }
-
--- a sample times m, for an m of at most 65536, fits a word
-pub scale-fits : (m : ℕ) {x : ℤ} → m ≤ 65536 → SFits w16 x → SFits w32 (pos m *ℤ x)
-scale-fits m {x} h f =
-    let a = fits-pn w16 x f in
-    let p = p-scale m x in
-    let n = n-scale m x in
-    let u = NatL.mul-le-mul {n₁ = m} {m₁ = P x} {n₂ = 65536} {m₂ = 32767} h (omega arith) in
-    let v = NatL.mul-le-mul {n₁ = m} {m₁ = N x} {n₂ = 65536} {m₂ = 32768} h (omega arith) in
-    in-range w32 (pos m *ℤ x) (omega arith) (omega arith)
 
 -- the size of a number that fits
 abs-fits : (w : Width) (z : ℤ) → SFits w z → P z + N z ≤ 2 ^ hbits w
@@ -111,11 +58,3 @@ times-fits c y h f =
     let b = shr-floor (c *ℤ y) 65536 (omega arith) in
     let g = mul-bound w32 c y h f in
     in-range w32 (shr_z (c *ℤ y) 65536) (omega arith) (omega arith)
-
--- what is small enough: whatever lies between the two tests, and an i16
-pub coef-between : (c : ℤ) → lt_z c (pos 65536) ≡ true → lt_z (negsuc 65535) c ≡ true → nat_abs c < 65536
-coef-between (pos n) h l = ltb-true n 65536 h
-coef-between (negsuc n) h l = omega (arith, ltb-true n 65535 l)
-
-pub coef-small : (c : ℤ) → SFits w16 c → nat_abs c < 65536
-coef-small c f = let a = fits-pn w16 c f in omega (arith, pn-abs c)

@@ -137,22 +137,6 @@ D-mul a b c d =
       ap (λ (k : ℕ). b * k) (pn-D c d),
     ))
 
--- ---- the order
-
-pub pn-le : (x y : ℤ) → x ≤ℤ y → P x + N y ≤ P y + N x
-unfolding P N
-pn-le (pos a) (pos b) h = omega (arith, leb→le a b h.le)
-pn-le (pos a) (negsuc b) h = absurd h.le
-pn-le (negsuc a) (pos b) h = omega arith
-pn-le (negsuc a) (negsuc b) h = omega (arith, leb→le b a h.le)
-
-pub le-pn : (x y : ℤ) → P x + N y ≤ P y + N x → x ≤ℤ y
-unfolding P N
-le-pn (pos a) (pos b) h = record { le = le→leb a b (omega arith) }
-le-pn (pos a) (negsuc b) h = absurd (omega arith)
-le-pn (negsuc a) (pos b) h = record { le = tt }
-le-pn (negsuc a) (negsuc b) h = record { le = le→leb b a (omega arith) }
-
 -- ---- division rounded down by m: m q ≤ z < m q + m
 
 pub record Floor (z q : ℤ) (m : ℕ) : Type 0 where

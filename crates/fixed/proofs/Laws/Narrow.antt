@@ -77,10 +77,6 @@ module _ (z : ℤ) (e : lt_z z (negsuc 32767) ≡ false) where
   pub clip-mid : lt_z (pos 32767) z ≡ false → clipped z ≡ z
   clip-mid d = clip-second ∙ ap (λ (b : Bool). if b then pos 32767 else z) d
 
-pub mid-fits : (z : ℤ) → lt_z z (negsuc 32767) ≡ false → lt_z (pos 32767) z ≡ false → SFits w16 z
-mid-fits (pos n) e d = record { sfits = omega (arith, ltb-false 32767 n d) }
-mid-fits (negsuc n) e d = record { sfits = omega (arith, ltb-false 32767 n e) }
-
 -- so the library's clamp clips, and what it leaves is a sample
 pub clamp-clips : (z : ℤ) → int_max (negsuc 32767) (int_min z (pos 32767)) ≡ clipped z
 unfolding clipped

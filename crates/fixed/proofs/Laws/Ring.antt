@@ -5,7 +5,7 @@ use Prim.Native.Nat.{ℕ, ◌+◌, ◌*◌, ◌≤◌}
 use native.Mathlib.Omega.{arith}
 use lib.IntN.{ℤ, pos, ◌+ℤ◌, ◌-ℤ◌, ◌*ℤ◌}
 use lib.Signed.{◌≤ℤ◌}
-use Rattle.fixed.proofs.Laws.Integer.{P, N, D, D-of, D-sum, D-neg, D-mul, D-pos, D-eq, pn-D, pn-le, le-pn}
+use Rattle.fixed.proofs.Laws.Integer.{P, N, D, D-of, D-sum, D-neg, D-mul, D-pos, D-eq, pn-D}
 
 infixl 6 ◌⊕◌ ◌⊖◌
 infixl 7 ◌⊗◌
@@ -52,12 +52,6 @@ of e = subst (λ (z : ℤ). P z + dn e ≡ up e + N z) (sym (val_is e)) (pn-D (u
 pub eq_z : (e f : E) → up e + dn f ≡ up f + dn e → val e ≡ val f
 eq_z e f h = val_is e ∙ D-eq (up e) (dn e) (up f) (dn f) h ∙ sym (val_is f)
 
-pub le_z : (e f : E) → up e + dn f ≤ up f + dn e → val e ≤ℤ val f
-le_z e f h = le-pn (val e) (val f) (omega (arith, of e, of f))
-
 -- to use one
 pub use_eq : (e f : E) → val e ≡ val f → up e + dn f ≡ up f + dn e
 use_eq e f h = omega (arith, of e, of f, ap P h, ap N h)
-
-pub use_le : (e f : E) → val e ≤ℤ val f → up e + dn f ≤ up f + dn e
-use_le e f h = omega (arith, of e, of f, pn-le (val e) (val f) h)

@@ -46,9 +46,6 @@ wrap-parts z =
     let y = pos 4294967296 *ℤ top z in
     omega (arith, pn-sum z (neg_ℤ y), p-neg y, n-neg y, p-scale 4294967296 (top z), n-scale 4294967296 (top z))
 
-pub wrap-cong : (z : ℤ) → Cong 4294967296 (wrapped z) z
-wrap-cong z = record { k = P (top z); l = N (top z); same = wrap-parts z }
-
 wrap-floor : (z : ℤ) → (P (wrapped z) < 2147483648 + N (wrapped z)) × (N (wrapped z) ≤ 2147483648 + P (wrapped z))
 unfolding P N
 wrap-floor z = (
@@ -69,20 +66,6 @@ wrap-unique z r c f =
 -- a number that fits is held whole
 pub wrap-id : (z : ℤ) → SFits w32 z → wrapped z ≡ z
 wrap-id z f = wrap-unique z z (record { k = 0; l = 0; same = refl }) f
-
--- numbers that differ by a multiple of 2^32 wrap to one number
-pub wrap-same : (x y : ℤ) → Cong 4294967296 x y → wrapped x ≡ wrapped y
-wrap-same x y c = wrap-unique x (wrapped y)
-    (record { k = c.k + N (top y); l = c.l + P (top y); same = omega (arith, wrap-parts y) })
-    (wrap-fits y)
-
-pub wrap-add : (a b : ℤ) → wrapped (wrapped a +ℤ b) ≡ wrapped (a +ℤ b)
-wrap-add a b = wrap-same (wrapped a +ℤ b) (a +ℤ b)
-    (record { k = P (top a); l = N (top a); same = omega (arith, wrap-parts a, pn-sum (wrapped a) b, pn-sum a b) })
-
-pub wrap-sub : (a b : ℤ) → wrapped (a -ℤ wrapped b) ≡ wrapped (a -ℤ b)
-wrap-sub a b = wrap-same (a -ℤ wrapped b) (a -ℤ b)
-    (record { k = N (top b); l = P (top b); same = omega (arith, wrap-parts b, of (# a ⊖ # (wrapped b)), of (# a ⊖ # b)) })
 
 -- ---- the machine's words: bits, and shifts left
 

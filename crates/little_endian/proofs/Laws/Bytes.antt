@@ -90,12 +90,6 @@ module _ (b : List ℕ) (at k : ℕ) where
         is = rw (d, drop-next b (at + (i - 1)) 0 (omega (arith, r.left, r.within)), e) (omega (arith, r.is));
       }
 
-  pub read-end : {i n : ℕ} → i ≤ 0 → Read i n → (n ≡ value (take k (drop at b))) × (n < 256 ^ k)
-  read-end {i} h r =
-      let d : k - i ≡ k = omega arith in
-      let e : at + i ≡ at = omega arith in
-      (rw (d, e) at r.is, rw d at r.fits)
-
 -- ---- words, one behind the other
 
 module _ {A : Type 0} (bits : A → ℕ) (k : ℕ) where

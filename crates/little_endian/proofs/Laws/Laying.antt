@@ -12,7 +12,7 @@ use Rattle.filters.proofs.Laws.Lists.{tabulate-length, tabulate-next, tabulate-n
 use Rattle.stages.proofs.Laws.Loop.{Filling, fill_start, fill_one, fill_end}
 use Rattle.little_endian.specs.Bytes.{bytes, value, laid_by, read_by}
 use Rattle.little_endian.proofs.Laws.Bytes.{bytes-length, laid-length, laid_next, laid_none}
-use Rattle.little_endian.proofs.Laws.Place.{placed, place-start, place_end, place-part}
+use Rattle.little_endian.proofs.Laws.Place.{placed, place_end, place-part}
 
 -- the word j of n has room behind those before it
 word_room : (k j n : ℕ) → j < n → k * j + k ≤ k * n
@@ -26,11 +26,6 @@ module _ {A : Type 0} (bits : A → ℕ) (k at : ℕ) (ws : List A) (old : List 
   pub record Laying (j : ℕ) (o : List ℕ) : Type 0 where
     pub room : at + k * length ws ≤ length old
     pub filling : Filling (take at old ++ laid_by bits k ws) old (at + k * j) o (laid_by bits k (drop j ws))
-
-  pub lay-start : at + k * length ws ≤ length old → Laying 0 old
-  lay-start h =
-      let e : at + k * 0 ≡ at = omega arith in
-      record { room = h; filling = rw e (place-start at _ old (omega arith)) }
 
   pub lay-room : {j : ℕ} {o : List ℕ} → j < length ws → Laying j o → at + k * j + k ≤ length o
   lay-room {j} h l = omega (arith, word_room k j (length ws) h, l.room, l.filling.len)
@@ -56,14 +51,6 @@ module _ {A : Type 0} (of_bits : ℕ → A) (k at : ℕ) (b : List ℕ) (old : L
   pub record Taking (j : ℕ) (o : List A) : Type 0 where
     pub room : at + k * length old ≤ length b
     pub filling : Filling (tabulate 0 (length old) word) old j o (tabulate j (length old - j) word)
-
-  pub take-start : at + k * length old ≤ length b → Taking 0 old
-  take-start h =
-      let e : length old - 0 ≡ length old = omega arith in
-      record { room = h; filling = rw e (fill_start _ old) }
-
-  pub take-room : {j : ℕ} {o : List A} → j < length o → Taking j o → at + k * j + k ≤ length b
-  take-room {j} {o} h t = omega (arith, word_room k j (length old) (omega (arith, t.filling.len)), t.room)
 
   pub take-turn : {j : ℕ} {o : List A} {x : A} → j < length o → Taking j o
       → x ≡ of_bits (value (take k (drop (at + k * j) b))) → Taking (j + 1) (set o j x)

@@ -14,9 +14,6 @@ module _ {A : Type 0} where
   placed at new n old = take at old ++ new ++ drop (at + n) old
 
   module _ (at : ℕ) (new old : List A) (within : at ≤ length old) where
-    pub place-start : Filling (take at old ++ new) old at old new
-    place-start = record { len = refl; within = within; same = refl; filled = refl }
-
     pub place_end : {k : ℕ} {o : List A} (n : ℕ) → length new ≡ n → Filling (take at old ++ new) old k o []
         → o ≡ placed at new n old
     place_end n l f =

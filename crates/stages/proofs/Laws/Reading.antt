@@ -31,10 +31,6 @@ module _ {A B : Type 0} (f : ℕ → List A → B) (increment n : ℕ) (buf : Li
       record { within = omega arith; room = h; place = omega arith; filling = rw e (fill_start _ before) }
 
   module _ {j p : ℕ} {o : List B} (h : j < n) (r : Reading j p o) where
-    -- an increment from here is still within n increments
-    pub read-place : p + increment ≤ n * increment
-    read-place = omega (arith, r.place, mul-le-mul_right increment h, add-mul 1 j increment)
-
     pub read-room : j < length o
     read-room = omega (arith, r.filling.len, r.room)
 
@@ -61,11 +57,6 @@ read-map k g increment n buf = tabulate-map k 0 n (λ j. g (j * increment % 6553
 pub read_length : {A B : Type 0} (f : ℕ → List A → B) (increment n : ℕ) (buf : List A) → length (read f increment n buf) ≡ n
 unfolding read
 read_length f increment n buf = tabulate-length 0 n _
-
--- ten milliseconds make at most ten times the outputs of one
-pub whole-count : (r : Rates) (n most : ℕ) → 0 < r.inKhz → r.outKhz ≤ most → n ≤ 10 * r.inKhz → outputs r n ≤ 10 * most
-whole-count r n most p o l =
-    mul-le-mul (le_of_mul-le-mul_right {m = n / r.inKhz} {n = 10} (omega (arith, div-add-mod' n r.inKhz)) p) o
 
 -- the outputs of m milliseconds, at most ten, begin before their samples end
 steady-reach : (num : ℕ) (r : Rates) → Steady num r → (m : ℕ) → m ≤ 10

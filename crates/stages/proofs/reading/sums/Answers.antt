@@ -7,7 +7,7 @@ use mir.Syntax.{w32}
 use lib.ListN.{drop, take}
 use Rattle.filters.proofs.Laws.Lists.{part-rest}
 use Rattle.stages.proofs.Laws.Loop.{over-full}
-use Rattle.stages.proofs.Laws.Reading.{read-start, read-place, read-turn, read-end, read_length}
+use Rattle.stages.proofs.Laws.Reading.{read-start, read-turn, read-end, read_length}
 use Rattle.stages.proofs.reading.sums.Goals as goal
 
 pub loop-j-init : goal.loop-j-init
