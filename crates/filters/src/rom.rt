@@ -78,9 +78,9 @@ pub const silk_resampler_frac_FIR_12: [[i32; 4]; 12] = [
 
 // The next three ask their caller to show that what they are given are the tables of specs/Rom.antt, and do nothing.
 fn sections_are(down0: i32, down1: i32, fb0: i32, fb1: i32, even: [i32; 3], odd: [i32; 3])
-    requires down0_value { (down0 ≡ Rom.silk_resampler_down2_0) × (down1 ≡ Rom.silk_resampler_down2_1) }
-    requires fb0_value { (fb0 ≡ Rom.A_fb1_20) × (fb1 ≡ Rom.A_fb1_21) }
-    requires even_value { (even ≡ Rom.silk_resampler_up2_hq_0) × (odd ≡ Rom.silk_resampler_up2_hq_1) }
+    requires decimator { (down0 ≡ Rom.silk_resampler_down2_0) × (down1 ≡ Rom.silk_resampler_down2_1) }
+    requires split { (fb0 ≡ Rom.A_fb1_20) × (fb1 ≡ Rom.A_fb1_21) }
+    requires doubler { (even ≡ Rom.silk_resampler_up2_hq_0) × (odd ≡ Rom.silk_resampler_up2_hq_1) }
 {}
 
 fn filters_are(
@@ -92,10 +92,10 @@ fn filters_are(
     c16: [i64; 20],
     lq: [i64; 6],
 )
-    requires c34_value { (c34 ≡ Rom.silk_Resampler_3_4_COEFS) × (c23 ≡ Rom.silk_Resampler_2_3_COEFS) }
-    requires c12_value { (c12 ≡ Rom.silk_Resampler_1_2_COEFS) × (c13 ≡ Rom.silk_Resampler_1_3_COEFS) }
-    requires c14_value { (c14 ≡ Rom.silk_Resampler_1_4_COEFS) × (c16 ≡ Rom.silk_Resampler_1_6_COEFS) }
-    requires lq_value { lq ≡ Rom.silk_Resampler_2_3_COEFS_LQ }
+    requires down_3_4_and_2_3 { (c34 ≡ Rom.silk_Resampler_3_4_COEFS) × (c23 ≡ Rom.silk_Resampler_2_3_COEFS) }
+    requires down_1_2_and_1_3 { (c12 ≡ Rom.silk_Resampler_1_2_COEFS) × (c13 ≡ Rom.silk_Resampler_1_3_COEFS) }
+    requires down_1_4_and_1_6 { (c14 ≡ Rom.silk_Resampler_1_4_COEFS) × (c16 ≡ Rom.silk_Resampler_1_6_COEFS) }
+    requires down2_3 { lq ≡ Rom.silk_Resampler_2_3_COEFS_LQ }
 {}
 
 fn interpolation_is(frac: [[i32; 4]; 12])

@@ -50,10 +50,10 @@ pub fn dead_zero(known: &Known) -> bool
 
 // Which entries a pair's path uses, and as many delay samples as its delay.
 fn living(known: &Known) -> Live
-    ensures fact { let s = known.now.state in
+    ensures counts { let s = known.now.state in
         let n = Records.living (path (Records.pair_of s)) in
         (result.doubler ≡ n.doubler) × (result.samples ≡ n.samples) × (result.ar2 ≡ n.ar2) × (result.fir ≡ n.fir) × (result.delay ≡ Pairs.delay (Records.pair_of s)) }
-    ensures bound { (result.doubler ≤ 6) × (result.samples ≤ 8) × (result.ar2 ≤ 2) × (result.fir ≤ 36) × (result.delay ≤ 48) }
+    ensures within_arrays { (result.doubler ≤ 6) × (result.samples ≤ 8) × (result.ar2 ≤ 2) × (result.fir ≤ 36) × (result.delay ≤ 48) }
 {
     let none = Live {
         doubler: 0,

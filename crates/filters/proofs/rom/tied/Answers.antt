@@ -7,7 +7,7 @@ use Rattle.filters.proofs.rom.tied.Goals as goal
 pub sections_are-requires : goal.sections_are-requires
 unfolding Rom.silk_resampler_up2_hq_0 Rom.silk_resampler_up2_hq_1
 sections_are-requires c =
-    record { down0_value = (refl, refl); fb0_value = (refl, refl); even_value = (refl, refl) }
+    record { decimator = (refl, refl); split = (refl, refl); doubler = (refl, refl) }
 
 pub filters_are-requires : goal.filters_are-requires
 unfolding
@@ -15,7 +15,7 @@ unfolding
     Rom.silk_Resampler_1_3_COEFS Rom.silk_Resampler_1_4_COEFS Rom.silk_Resampler_1_6_COEFS
     Rom.silk_Resampler_2_3_COEFS_LQ
 filters_are-requires c =
-    record { c34_value = (refl, refl); c12_value = (refl, refl); c14_value = (refl, refl); lq_value = refl }
+    record { down_3_4_and_2_3 = (refl, refl); down_1_2_and_1_3 = (refl, refl); down_1_4_and_1_6 = (refl, refl); down2_3 = refl }
 
 pub interpolation_is-requires : goal.interpolation_is-requires
 unfolding Rom.silk_resampler_frac_FIR_12

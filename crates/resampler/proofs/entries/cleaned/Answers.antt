@@ -7,8 +7,8 @@ use Rattle.resampler.proofs.entries.cleaned.Goals as goal
 pub returns : goal.returns
 returns c =
     let s = c.args.known.now.state in
-    let (d, m, a, f, l) = c.living-n.ensures.fact in
-    let (db, mb, ab, fb, lb) = c.living-n.ensures.bound in
+    let (d, m, a, f, l) = c.living-n.ensures.counts in
+    let (db, mb, ab, fb, lb) = c.living-n.ensures.within_arrays in
     cleaned-is s (
       cleared 6 _ s.doubler (search rules) d db (c.fill.ensures.after (λ y k. search rules)),
       cleared 8 _ s.samples (search rules) m mb (c.fill-2.ensures.after (λ y k. search rules)),

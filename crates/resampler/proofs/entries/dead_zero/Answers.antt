@@ -17,7 +17,7 @@ pub returns : goal.returns
 returns c =
     let s = c.args.known.now.state in
     let n = c.living-n.result in
-    let (d, m, a, f, l) = c.living-n.ensures.fact in
+    let (d, m, a, f, l) = c.living-n.ensures.counts in
     dead-is s (
       looked s.doubler d (all_from_yields_List (λ z. int_eq z (pos 0)) _ _ c.all-inDoubler.result c.all-inDoubler.ensures.ran (YieldsList-from_slice (take (length s.doubler - n.doubler) (drop n.doubler s.doubler)) cc) (λ x b q k. search (rules, tests)) ∙ rest-words n.doubler s.doubler),
       looked s.samples m (all_from_yields_List (λ z. int_eq z (pos 0)) _ _ c.all-inSamples.result c.all-inSamples.ensures.ran (YieldsList-from_slice (take (length s.samples - n.samples) (drop n.samples s.samples)) cc) (λ x b q k. search (rules, tests)) ∙ rest-words n.samples s.samples),
