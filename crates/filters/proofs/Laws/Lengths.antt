@@ -12,13 +12,13 @@ use Rattle.filters.specs.Run.{run}
 use Rattle.filters.specs.Rom.{silk_resampler_up2_hq_0, silk_resampler_up2_hq_1}
 use Rattle.filters.specs.declared.rates.Rates.{Rates}
 use Rattle.filters.specs.Reader.{read, outputs}
-use Rattle.filters.specs.Section.{scaled, section_out, row_next, halves_next}
+use Rattle.filters.specs.Section.{scaled, section_out, row_next}
 use Rattle.fixed.specs.Ar2.{ar2_out, ar2_after, ar2_next}
 use Rattle.filters.specs.Stage.Ar2.{ar2, ar2_end}
 use Rattle.filters.specs.Stage.Up2Hq.{up2, up2_end, up2_raw, up2_out, up2_next}
 use Rattle.filters.specs.Stage.DownFir.{Filter, outer_sums, down_fir, down_batch}
 use Rattle.filters.specs.Stage.IirFir.{iir_fir, iir_fir_carried, iir_fir_batch, iir_fir_next}
-use Rattle.filters.specs.Stage.Down2.{down2, down2_end, down2_out, down2_next}
+use Rattle.filters.specs.Stage.Down2.{down2, down2_out, down2_next}
 use Rattle.filters.specs.Stage.AnaFiltBank1.{split_low, split_high, low_out, high_out, split_next}
 use Rattle.filters.proofs.Laws.Lists.{tabulate-length, pairs-length}
 use Rattle.filters.proofs.Laws.Run.{run_length, end-keeps}

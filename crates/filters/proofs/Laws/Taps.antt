@@ -6,14 +6,14 @@ use mathlib.Core.List.{List, [], ◌∷◌, ◌++◌, reverse}
 use Prim.Native.Nat.{ℕ, zero, suc, ◌+◌, ◌*◌, ◌-◌, ◌/◌, ◌<◌, ◌≤◌, ◌%◌}
 use native.Mathlib.Nat.{not-suc-le-zero, le_of_suc-le-suc, mul-lt-mul_of_pos_right, mul-le-mul_left, mul-suc}
 use native.Mathlib.Omega.{arith}
-use borrow.Author.Tests.{eqb-true, ltb-true, lt-ltb}
+use borrow.Author.Tests.{eqb-true, lt-ltb}
 use Rattle.std.proofs.lemmas.List.{length-reverse}
 use Rattle.fixed.specs.Fixed.{times}
-use lib.Dec.{eqb, ltb}
-use lib.IntN.{ℤ, pos, nat_abs}
+use lib.Dec.{eqb}
+use lib.IntN.{ℤ, pos}
 use lib.ListN.{length, take, drop, get_or, length-drop}
 use lib.Seq.{drop-drop, length-take-le}
-use Rattle.filters.specs.Lists.{◌!◌, cut, every}
+use Rattle.filters.specs.Lists.{cut, every}
 use Rattle.filters.specs.Rom.{silk_resampler_frac_FIR_12}
 use Rattle.filters.specs.Reader.{mirrored, sum, Small, small?}
 use Rattle.filters.specs.Stage.DownFir.{Fitting, filter_of, apart, rows, filtered, in_pairs, outer_sums}

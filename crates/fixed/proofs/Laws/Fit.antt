@@ -1,20 +1,14 @@
 -- Signed ranges, and reading a signed value back: what is stored, passed or returned at width w stands in a proof as
 -- `to_z w (of_z w x)`, which is x where x fits. Assumes nothing.
-use mathlib.Core.Path.{◌≡◌, sym, ◌∙◌, subst}
 use Prim.Native.Nat.{ℕ, ◌+◌, ◌*◌, ◌^◌, ◌<◌, ◌≤◌}
 use native.Mathlib.Omega.{arith}
 use native.Mathlib.Nat as NatL
-use mathlib.Core.Bool.{true}
-use borrow.Author.Tests.{ltb-true}
-use lib.Dec.{T, leb}
-use lib.IntN.{ℤ, pos, negsuc, neg_ℤ, nat_abs, ◌+ℤ◌, ◌-ℤ◌, ◌*ℤ◌}
-use lib.Signed.{shr_z, lt_z, mag, mag_shr}
+use lib.IntN.{ℤ, pos, negsuc, nat_abs, ◌*ℤ◌}
+use lib.Signed.{shr_z, mag_shr}
 use mir.Syntax.{Width, w16, w32, w64}
-use mir.Val.{SFits, to_z, of_z, hbits}
-use mir.Facts.{sfits_widen, to_z-of_z}
+use mir.Val.{SFits, hbits}
 use Rattle.fixed.specs.Fixed.{times}
-use Rattle.fixed.proofs.Laws.Integer.{P, N, pn-sum, pn-abs, p-neg, n-neg, p_mul, n-mul, p-scale, n-scale, shr-floor}
-use Rattle.fixed.proofs.Laws.Wrap.{fits-pn}
+use Rattle.fixed.proofs.Laws.Integer.{P, N, pn-abs, p_mul, n-mul, shr-floor}
 
 -- ---- ranges
 

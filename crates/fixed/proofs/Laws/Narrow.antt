@@ -7,12 +7,11 @@ use mathlib.Core.Bool.{Bool, true, false}
 use Prim.Native.Nat.{ℕ, suc, ◌+◌, ◌-◌, ◌*◌, ◌/◌, ◌^◌, ◌<◌, ◌≤◌}
 use native.Mathlib.Omega.{arith}
 use native.Mathlib.Nat as NatL
-use borrow.Author.Tests.{ltb-false}
 use lib.Dec.{ltb}
 use lib.IntN.{ℤ, pos, negsuc, ◌+ℤ◌}
 use lib.Pow.{pow_pos, pow-lt}
 use lib.Signed.{shr_z, lt_z}
-use mir.Syntax.{w16, w32}
+use mir.Syntax.{w32}
 use mir.Val.{SFits}
 use Rattle.fixed.specs.Fixed.{clipped, rounded}
 use Rattle.fixed.proofs.Laws.Integer.{P, N, pn-sum, shr-floor, floor-is}

@@ -1,10 +1,9 @@
 -- Equations and orders over ℤ by their syntax: an atom `# z` is any integer, `val` is an expression's value, and that is
 -- `up e` less `dn e`, two polynomials over ℕ, which `omega` compares. Assumes nothing.
 use mathlib.Core.Path.{◌≡◌, sym, ◌∙◌, ap, subst}
-use Prim.Native.Nat.{ℕ, ◌+◌, ◌*◌, ◌≤◌}
+use Prim.Native.Nat.{ℕ, ◌+◌, ◌*◌}
 use native.Mathlib.Omega.{arith}
 use lib.IntN.{ℤ, pos, ◌+ℤ◌, ◌-ℤ◌, ◌*ℤ◌}
-use lib.Signed.{◌≤ℤ◌}
 use Rattle.fixed.proofs.Laws.Integer.{P, N, D, D-of, D-sum, D-neg, D-mul, D-pos, D-eq, pn-D}
 
 infixl 6 ◌⊕◌ ◌⊖◌

@@ -15,7 +15,6 @@ use mir.ValLaws.{to_z-Fits}
 use mir.Val.{SFits, to_z, of_z, sel, hbits, bits}
 use Rattle.fixed.specs.Fixed.{wrapped}
 use Rattle.fixed.proofs.Laws.Integer.{P, N, pn-sum, p-neg, n-neg, p-scale, n-scale, pn-or, from-pn, shr-floor}
-use Rattle.fixed.proofs.Laws.Ring.{#, ◌⊖◌, of}
 
 -- x and y differ by a multiple of m
 pub record Cong (m : ℕ) (x y : ℤ) : Type 0 where

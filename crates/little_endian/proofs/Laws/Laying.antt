@@ -9,7 +9,7 @@ use native.Mathlib.Omega.{arith}
 use lib.ListN.{length, take, drop, set, get_or}
 use Rattle.filters.specs.Lists.{tabulate}
 use Rattle.filters.proofs.Laws.Lists.{tabulate-length, tabulate-next, tabulate-none, drop-none}
-use Rattle.stages.proofs.Laws.Loop.{Filling, fill_start, fill_one, fill_end}
+use Rattle.stages.proofs.Laws.Loop.{Filling, fill_one, fill_end}
 use Rattle.little_endian.specs.Bytes.{bytes, value, laid_by, read_by}
 use Rattle.little_endian.proofs.Laws.Bytes.{bytes-length, laid-length, laid_next, laid_none}
 use Rattle.little_endian.proofs.Laws.Place.{placed, place_end, place-part}

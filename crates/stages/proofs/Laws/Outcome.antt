@@ -3,15 +3,13 @@
 use Rattle.std.specs.Prelude.{if◌then◌else◌, Result, Ok, Err}
 use mathlib.Core.Path.{◌≡◌, refl}
 use mathlib.Core.Bool.{Bool, true, false, not}
-use mathlib.Core.List.{List, append-nil}
 use Prim.Native.Nat.{ℕ, ◌*◌, ◌/◌, ◌%◌, ◌≤◌}
 use native.Mathlib.Omega.{arith}
-use borrow.Author.Tests.{eq-eqb, ne_eqb, eqb-true, ltb-false}
+use borrow.Author.Tests.{ne_eqb, eqb-true, ltb-false}
 use lib.Dec.{ltb, eqb}
-use lib.ListN.{length, drop_of_length-le}
 use Rattle.stages.specs.declared.answer.Refusal.{Refusal}
 use Rattle.stages.specs.declared.answer.Refusal.TheVariants.{PairNotListed, NoSupportedPair, NotWholeMilliseconds, TooLong, OutputTooShort, NotInGroups, NotHalf, NotABlock, CheckDiffers, LayoutUnknown, BlockPairUnsupported, DeadNotZero}
-use Rattle.stages.specs.Outcome.{Done, Outcome, outcome, ruled, over, row_of, answer_of}
+use Rattle.stages.specs.Outcome.{Done, Outcome, outcome, ruled, row_of, answer_of}
 use Rattle.stages.specs.Entry.{half_row, down23_row, most_samples}
 
 -- no refusal is row 0

@@ -2,7 +2,7 @@
 use mathlib.Core.Path.{◌≡◌, refl, sym, ◌∙◌, ap}
 use mathlib.Core.List.{List, map}
 use Prim.Native.Nat.{ℕ, ◌+◌, ◌*◌, ◌-◌, ◌/◌, ◌%◌, ◌<◌, ◌≤◌}
-use native.Mathlib.Nat.{add-mul, mul_assoc, mul_comm, mul-sub, mul-le-mul, mul-le-mul_right, le_of_mul-le-mul_right, div-add-mod'}
+use native.Mathlib.Nat.{add-mul, mul_assoc, mul_comm, mul-sub, mul-le-mul_right, le_of_mul-le-mul_right, div-add-mod'}
 use native.Mathlib.Omega.{arith}
 use lib.IntN.{ℤ}
 use lib.ListN.{length, drop, set}

@@ -1,6 +1,6 @@
 -- `filters::taps::backward` meets its contract: what is summed, and the products that are left, are the definition's sum.
 -- Assumes nothing.
-use Rattle.std.proofs.Common.{rules, arith, ap, ◌≡◌, ◌∙◌, sym, length, length-append}
+use Rattle.std.proofs.Common.{rules, arith, ap, length, length-append}
 use Rattle.std.proofs.lemmas.Grind.{common_steps}
 use Rattle.filters.proofs.Laws.Dot.{sum-none, sum-back}
 use Rattle.filters.proofs.Laws.Taps.{every-last}

@@ -1,14 +1,9 @@
 -- `filters::taps::inward` meets its contract: what is summed, and the products that are left, are the definition's sum.
 -- Assumes nothing.
-use Rattle.std.proofs.Common.{rules, arith, ◌≡◌, ◌∙◌, sym, ◌+◌, ◌*◌, ◌/◌, length, drop, length-drop, ◌<◌}
-use lib.IntN.{pos, ◌+ℤ◌}
-use Rattle.fixed.specs.Fixed.{wrapped, times}
-use Rattle.filters.specs.Lists.{◌!◌}
-use Rattle.filters.specs.Reader.{sum, small?}
+use Rattle.std.proofs.Common.{rules, arith, ◌≡◌, ◌+◌, ◌*◌, length, drop, length-drop}
+use Rattle.fixed.specs.Fixed.{times}
 use Rattle.filters.specs.Stage.DownFir.{outer_sums}
-use Rattle.filters.proofs.Laws.Lengths.{outer_sums-length}
-use Rattle.filters.proofs.Laws.Dot.{sum-none, sum-next, outer-at}
-use Rattle.filters.proofs.Laws.Taps.{every-at}
+use Rattle.filters.proofs.Laws.Dot.{sum-none}
 use Rattle.filters.proofs.taps.inward.Goals as goal
 
 pub three_inward-all-requires : goal.three_inward-all-requires

@@ -1,13 +1,13 @@
 -- `filters::taps::three_inward` meets its contract: each product is the next of the definition's sum.
 -- Assumes nothing.
-use Rattle.std.proofs.Common.{rules, arith, ◌≡◌, ◌∙◌, sym, ◌+◌, ◌*◌, ◌/◌, length, drop, length-drop, ◌<◌}
+use Rattle.std.proofs.Common.{rules, arith, ◌≡◌, ◌∙◌, sym, ◌+◌, length, drop}
 use lib.IntN.{pos, ◌+ℤ◌}
 use Rattle.fixed.specs.Fixed.{wrapped, times}
 use Rattle.filters.specs.Lists.{◌!◌}
 use Rattle.filters.specs.Reader.{sum, small?}
 use Rattle.filters.specs.Stage.DownFir.{outer_sums}
 use Rattle.filters.proofs.Laws.Lengths.{outer_sums-length}
-use Rattle.filters.proofs.Laws.Dot.{sum-none, sum-next, outer-at}
+use Rattle.filters.proofs.Laws.Dot.{sum-next}
 use Rattle.filters.proofs.Laws.Taps.{every-at}
 use Rattle.filters.proofs.taps.three_inward.Goals as goal
 

@@ -1,9 +1,8 @@
 -- `filters::up2_hq::step` meets its contract: each chain is the definition's, on its half of the words.
 -- Assumes nothing.
-use Rattle.std.proofs.Common.{rules, ◌≡◌, arith, [], ◌∷◌, ap}
-use Rattle.filters.specs.Lists.{◌!◌, tabulate}
+use Rattle.std.proofs.Common.{rules, arith}
+use Rattle.filters.specs.Lists.{tabulate}
 use Rattle.filters.specs.Rom.{silk_resampler_up2_hq_0, silk_resampler_up2_hq_1}
-use Rattle.filters.specs.Section.{scaled, row_out, row_next}
 use Rattle.filters.specs.Stage.Up2Hq.{up2_raw, up2_even, up2_odd, up2_next}
 use Rattle.filters.proofs.Laws.Lists.{spelt}
 use Rattle.filters.proofs.up2_hq.step.Goals as goal

@@ -1,6 +1,6 @@
 -- `stages::ana_filt_bank_1::bands` meets its contract: in each band what is written, followed by what the pairs left make, is the whole.
 -- Assumes nothing.
-use Rattle.std.proofs.Common.{rules, arith, ◌≡◌, ◌∙◌, length, ◌*◌, ◌+◌, ◌%◌, ◌/◌, refl}
+use Rattle.std.proofs.Common.{rules, arith, ◌≡◌, ◌∙◌}
 use mir.Val.{to_z, of_z}
 use mir.Syntax.{w16, w32}
 use mathlib.Core.List.{[], ◌∷◌}

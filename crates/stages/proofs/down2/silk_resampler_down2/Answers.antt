@@ -1,7 +1,7 @@
 -- `stages::down2::silk_resampler_down2` meets its contract: its row is the definition's, and where none applies the output is
 -- filled to its end with what the decimator makes of the whole input.
 -- Assumes nothing.
-use Rattle.std.proofs.Common.{arith, ◌≡◌, ◌∙◌, sym, refl, length, ◌/◌, ◌%◌}
+use Rattle.std.proofs.Common.{arith, ◌∙◌, sym, refl, length, ◌/◌}
 use borrow.Author.Tests.{eqb-true}
 use Rattle.filters.specs.Stage.Down2.{down2, down2_end}
 use Rattle.stages.specs.Entry.{down2_outcome}

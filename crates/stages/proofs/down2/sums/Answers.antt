@@ -1,8 +1,8 @@
 -- `stages::down2::sums` meets its contract: what is summed, followed by what the pairs left make, is the whole.
 -- Assumes nothing.
-use Rattle.std.proofs.Common.{rules, arith, ◌≡◌, ◌∙◌, length, ◌*◌, ◌+◌, ◌%◌, ◌/◌, refl}
+use Rattle.std.proofs.Common.{rules, arith, ◌≡◌, ◌∙◌}
 use mir.Val.{to_z, of_z}
-use mir.Syntax.{w16, w32}
+use mir.Syntax.{w32}
 use mathlib.Core.List.{[], ◌∷◌}
 use Rattle.filters.specs.Lists.{◌!◌, pairs, tabulate}
 use Rattle.filters.specs.Stage.Down2.{down2_sum, down2_next, down2_end}

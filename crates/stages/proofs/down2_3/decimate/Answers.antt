@@ -1,14 +1,14 @@
 -- `stages::down2_3::decimate` meets its contract: what is written, followed by what the groups left make, is the whole.
 -- Assumes nothing.
-use Rattle.std.proofs.Common.{rules, arith, ◌≡◌, ◌∙◌, length, ◌*◌, ◌+◌, ◌%◌, ◌/◌, refl}
+use Rattle.std.proofs.Common.{rules, arith, ◌≡◌, ◌∙◌}
 use mir.Val.{to_z, of_z}
-use mir.Syntax.{w16, w32}
-use Rattle.filters.specs.Lists.{◌!◌, pairs}
+use mir.Syntax.{w16}
+use Rattle.filters.specs.Lists.{◌!◌}
 use mathlib.Core.List.{[], ◌∷◌}
 use Rattle.filters.specs.Lists.{tabulate}
 use Rattle.filters.specs.Stage.Down2_3.{down23, down23_end}
 use Rattle.filters.proofs.Laws.Lists.{spelt, three-first, threes-none}
-use Rattle.stages.proofs.Laws.Groups.{group-start, group-room, group-turn, group-stop}
+use Rattle.stages.proofs.Laws.Groups.{group-start, group-turn, group-stop}
 use Rattle.stages.proofs.down2_3.decimate.Goals as goal
 
 pub loop-k-init : goal.loop-k-init

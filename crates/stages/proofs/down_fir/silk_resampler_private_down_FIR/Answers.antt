@@ -1,7 +1,7 @@
 -- `stages::down_fir::silk_resampler_private_down_FIR` meets its contract: the batches' words, the live ones of them, are the
 -- definition's, and behind them stand zeros.
 -- Assumes nothing.
-use Rattle.std.proofs.Common.{arith, ◌≡◌, ◌∙◌, sym, ap, ℕ, List, length, length-append, length-drop, take, drop, ◌++◌, ◌*◌, ◌-◌, ◌≤◌}
+use Rattle.std.proofs.Common.{arith, ◌≡◌, ◌∙◌, sym, ap, ℕ, List, length, length-append, length-drop, take, ◌++◌, ◌*◌, ◌-◌, ◌≤◌}
 use Rattle.std.proofs.lemmas.List.{length-take-le}
 use lib.IntN.{ℤ}
 use Rattle.filters.specs.Lists.{padded}

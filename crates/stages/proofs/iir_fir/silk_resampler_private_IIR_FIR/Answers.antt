@@ -1,6 +1,6 @@
 -- `stages::iir_fir::silk_resampler_private_IIR_FIR` meets its contract: the batches' words, side by side, are the definition's.
 -- Assumes nothing.
-use Rattle.std.proofs.Common.{arith, ◌≡◌, ◌∙◌, ap, refl, List, ◌*◌}
+use Rattle.std.proofs.Common.{◌∙◌, ap, refl, List, ◌*◌}
 use lib.IntN.{ℤ}
 use Rattle.filters.specs.Stage.Up2Hq.{up2_end}
 use Rattle.filters.specs.Stage.IirFir.{iir_fir_carried, iir_fir_batch, iir_fir_next, iir_fir_pass, iir_fir_end}

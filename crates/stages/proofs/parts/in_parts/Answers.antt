@@ -1,7 +1,7 @@
 -- `stages::parts::in_parts` meets its contract: each turn is a part of the definition's, and what the parts so far wrote, followed by
 -- what those left will, is the whole.
 -- Assumes nothing.
-use Rattle.std.proofs.Common.{rules, arith, ◌≡◌, ◌∙◌, sym, length, length-take, length-drop, drop, ◌*◌, ◌-◌, ◌/◌, ◌<◌, ◌≤◌, ◌+◌, min}
+use Rattle.std.proofs.Common.{rules, arith, ◌≡◌, ◌∙◌, length, length-take, length-drop, drop, ◌*◌, ◌-◌, min}
 use Rattle.stages.proofs.Laws.Loop.{length-zero}
 use Rattle.stages.proofs.Laws.Pass.{units-start, units-whole, units-few, units-room, units-turn, units-end}
 use Rattle.stages.proofs.parts.in_parts.Goals as goal

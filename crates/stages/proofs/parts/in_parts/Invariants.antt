@@ -1,7 +1,7 @@
 -- `stages::parts::in_parts` meets its contract: each turn is a part of the definition's, and what the parts so far wrote, followed by
 -- what those left will, is the whole.
 -- Assumes nothing.
-use Rattle.std.proofs.Common.{◌≡◌, length, ◌*◌}
+use Rattle.std.proofs.Common.{◌≡◌, ◌*◌}
 use Rattle.stages.proofs.Laws.Pass.{Units}
 use Rattle.stages.proofs.parts.in_parts.Given as goal
 

@@ -4,7 +4,7 @@
 use Rattle.std.proofs.Common.{rules, arith, ◌≡◌, ◌∙◌, sym, length, ◌%◌, ◌/◌}
 use mir.Val.{to_z, of_z}
 use mir.Syntax.{w32}
-use lib.ListN.{drop, take}
+use lib.ListN.{drop}
 use Rattle.filters.proofs.Laws.Lists.{part-rest}
 use Rattle.stages.proofs.Laws.Loop.{over-full}
 use Rattle.stages.proofs.Laws.Reading.{read-start, read-turn, read-end, read_length}

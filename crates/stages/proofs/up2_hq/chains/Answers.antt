@@ -1,9 +1,9 @@
 -- `stages::up2_hq::chains` meets its contract: what is written, followed by what the samples left make, is the whole.
 -- Assumes nothing.
-use Rattle.std.proofs.Common.{rules, arith, ◌≡◌, ◌∙◌, length, ◌*◌, ◌+◌, ◌%◌, ◌/◌, refl}
+use Rattle.std.proofs.Common.{rules, arith, ◌≡◌, ◌*◌, ◌+◌}
 use mir.Val.{to_z, of_z}
-use mir.Syntax.{w16, w32}
-use Rattle.filters.specs.Lists.{◌!◌, pairs}
+use mir.Syntax.{w32}
+use Rattle.filters.specs.Lists.{◌!◌}
 use lib.IntN.{pos}
 use mathlib.Core.List.{[], ◌∷◌}
 use Rattle.filters.specs.Lists.{tabulate}

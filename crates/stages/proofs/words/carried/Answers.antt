@@ -1,6 +1,6 @@
 -- `stages::words::carried` meets its contract: what stands behind the words that were copied are zeros.
 -- Assumes nothing.
-use Rattle.std.proofs.Common.{rules, drop, replicate, length}
+use Rattle.std.proofs.Common.{rules, length}
 use Rattle.filters.proofs.Laws.Lists.{drop-same}
 use Rattle.stages.proofs.words.carried.Goals as goal
 

@@ -1,9 +1,9 @@
 -- A part of the 1/2 decimator meets its contract: what is narrowed are the sums at the buffer's front.
 -- Assumes nothing.
-use Rattle.std.proofs.Common.{rules, arith, ◌≡◌, ◌∙◌, sym, ap, length, take, map, List, ◌*◌, ◌+◌, ◌-◌, ◌%◌, ◌/◌, refl}
+use Rattle.std.proofs.Common.{arith, ◌∙◌, ap, length, map, List, ◌/◌}
 use lib.IntN.{ℤ}
 use Rattle.stages.specs.Outcome.{over}
-use Rattle.filters.specs.Stage.Down2.{down2, down2_sum, down2_next}
+use Rattle.filters.specs.Stage.Down2.{down2_sum, down2_next}
 use Rattle.filters.specs.Lists.{pairs}
 use Rattle.filters.specs.Run.{run}
 use Rattle.filters.proofs.Laws.Run.{run_length}

@@ -1,7 +1,7 @@
 -- A batch of a down filter meets its contract: the buffer's front is the carried words and what AR2 makes of the input, what is read
 -- from it are the outputs, and as many words as the order are carried on.
 -- Assumes nothing.
-use Rattle.std.proofs.Common.{rules, arith, ◌≡◌, ℕ, ◌∙◌, ap, List, length, length-append, take, ◌++◌, ◌+◌, ◌*◌, ◌-◌}
+use Rattle.std.proofs.Common.{arith, ◌≡◌, ℕ, ◌∙◌, ap, List, length, length-append, take, ◌++◌, ◌+◌, ◌*◌, ◌-◌}
 use Rattle.std.proofs.lemmas.List.{length-take-le}
 use lib.IntN.{ℤ}
 use Rattle.fixed.specs.Fixed.{narrowed}

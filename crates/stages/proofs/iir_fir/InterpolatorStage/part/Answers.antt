@@ -1,7 +1,7 @@
 -- A batch of the interpolator meets its contract: the buffer's front is the carried samples and the doubled input, what is read
 -- from it are the outputs, and its last eight samples are carried on.
 -- Assumes nothing.
-use Rattle.std.proofs.Common.{rules, arith, ◌≡◌, ℕ, ◌∙◌, ap, List, length, length-append, take, ◌++◌, ◌+◌, ◌*◌, ◌-◌}
+use Rattle.std.proofs.Common.{arith, ◌≡◌, ◌∙◌, ap, List, length, length-append, ◌++◌, ◌+◌, ◌*◌, ◌-◌}
 use lib.IntN.{ℤ}
 use Rattle.fixed.specs.Fixed.{narrowed}
 use Rattle.filters.specs.Reader.{read, outputs}

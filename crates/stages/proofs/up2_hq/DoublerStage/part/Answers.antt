@@ -1,6 +1,6 @@
 -- A part of the doubler meets its contract: what is narrowed are the words at the buffer's front.
 -- Assumes nothing.
-use Rattle.std.proofs.Common.{rules, arith, ◌≡◌, ◌∙◌, sym, ap, length, take, map, List, ◌*◌, ◌+◌, ◌-◌, ◌%◌, ◌/◌, refl}
+use Rattle.std.proofs.Common.{arith, ◌∙◌, ap, length, map, List, ◌*◌}
 use lib.IntN.{ℤ}
 use Rattle.stages.specs.Outcome.{over}
 use Rattle.filters.specs.Stage.Up2Hq.{up2_raw, up2_next}
