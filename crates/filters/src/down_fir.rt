@@ -1,6 +1,6 @@
 // One output of a down filter: as many taps as the order. From silk/resampler/down_fir.rs. Meaning: specs/Stage/DownFir.antt.
-ghost use Rattle.std.specs.Prelude.{◌≡◌, ◌<◌, ◌≤◌, length};
-ghost use Rattle.filters.specs.Stage.DownFir.{Fitting, filter_of, apart, filtered};
+ghost use Rattle.std.specs.Prelude.{◌≡◌, ◌<◌};
+ghost use Rattle.filters.specs.Stage.DownFir.{Fitting, filter_of, filtered};
 
 use crate::reader::Reader;
 use crate::{rom, taps};
@@ -51,33 +51,47 @@ pub const DOWN_1_6: Filter<'static> = Filter {
     rows: 1,
 };
 
-impl Filter<'_> {
-    // Order 18: nine taps of the fraction's row forward, nine of its mirror backward.
-    fn apart(&self, fraction: usize, ys: &[i32]) -> i32
-        requires { (self.now.order ≡ 18) × (fraction < 65536) × (18 ≤ length ys.now) }
-        ensures { result ≡ apart (filter_of 18 self.now.coefs.now) fraction ys.now }
-    {
-        let k = fraction * self.rows / 65536;
-        let m = self.rows - 1 - k;
+// A filter of order 18: nine taps of the fraction's row forward, nine of its mirror backward.
+#[derive(Clone, Copy)]
+pub struct Apart<'a> {
+    pub filter: Filter<'a>,
+    pub ghost eighteen: { filter.order ≡ 18 },
+}
+
+// A filter of a higher order: a sum of two outer samples for each tap. Two readers, as the Rust has two loops: one that holds the taps of
+// both takes a tenth more.
+#[derive(Clone, Copy)]
+pub struct InPairs<'a> {
+    pub filter: Filter<'a>,
+    pub ghost above: { 18 < filter.order },
+}
+
+impl Reader for Apart<'_> {
+    type Sample = i32;
+
+    ghost reach = { λ it. it.filter.order };
+
+    ghost reading = { λ it. filtered (filter_of it.filter.order it.filter.coefs.now) };
+
+    fn output(&self, fraction: usize, from: &[i32]) -> i32 {
+        let f = self.filter;
+        let k = fraction * f.rows / 65536;
         let row = 2 + 9 * k;
-        let mirror = 2 + 9 * m;
-        let front = taps::forward(0, &self.coefs[row..row + 9], &ys[..9]);
-        taps::backward(front, &self.coefs[mirror..mirror + 9], &ys[9..18])
+        let mirror = 2 + 9 * (f.rows - 1 - k);
+        let front = taps::forward(0, &f.coefs[row..row + 9], &from[..9]);
+        taps::backward(front, &f.coefs[mirror..mirror + 9], &from[9..18])
     }
 }
 
-impl Reader for Filter<'_> {
+impl Reader for InPairs<'_> {
     type Sample = i32;
 
-    ghost reach = { λ f. f.order };
+    ghost reach = { λ it. it.filter.order };
 
-    ghost reading = { λ f. filtered (filter_of f.order f.coefs.now) };
+    ghost reading = { λ it. filtered (filter_of it.filter.order it.filter.coefs.now) };
 
     fn output(&self, fraction: usize, from: &[i32]) -> i32 {
-        if self.order <= 18 {
-            return self.apart(fraction, from);
-        }
-        let end = 2 + self.order / 2;
-        taps::inward(&self.coefs[2..end], &from[..self.order])
+        let f = self.filter;
+        taps::inward(&f.coefs[2..2 + f.order / 2], &from[..f.order])
     }
 }

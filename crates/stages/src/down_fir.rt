@@ -3,15 +3,15 @@
 // out by value, the filter comes with the call, and the number of outputs is counted.
 ghost use Rattle.std.specs.Prelude.{◌≡◌, ◌++◌, ◌+◌, ◌*◌, ◌-◌, ◌/◌, ◌%◌, ◌<◌, ◌≤◌, nat_abs, length, take};
 ghost use Rattle.filters.specs.Lists.{◌!◌, padded};
-ghost use Rattle.filters.specs.Reader.{outputs, Steady};
-ghost use Rattle.stages.specs.Outcome.{Staged};
+ghost use Rattle.filters.specs.Reader.{read, outputs, Steady};
+ghost use Rattle.stages.specs.Outcome.{over, Staged};
 ghost use Rattle.filters.specs.Stage.Ar2.{ar2 as filtered, ar2_end};
 ghost use Rattle.filters.proofs.Laws.Lengths.{down_batch-length};
-ghost use Rattle.filters.specs.Stage.DownFir.{filter_of, down_batch, down_fir_carried, down_pass, down_end};
+ghost use Rattle.filters.specs.Stage.DownFir.{filter_of, fir, down_batch, down_fir_carried, down_pass, down_end};
 
 use crate::parts::{Pass, Stage, in_parts};
 use crate::{ar2, reading, words};
-use filters::down_fir::Filter;
+use filters::down_fir::{Apart, Filter, InPairs};
 use filters::rates::Rates;
 
 // The words of a down filter: those of AR2, and the carried ones, of which the first `order` are live.
@@ -41,6 +41,23 @@ struct Lowering<'a> {
     ghost few: { rates.outKhz ≤ 16 },
 }
 
+impl Lowering<'_> {
+    // The first n outputs: of order 18 by one reader, of those above by another.
+    fn read(&self, n: usize, buf: &[i32], out: &mut [i16])
+        requires begins_inside { (self.now.filter.order ≤ length buf.now) × (n * self.now.rates.increment < 65536 * (length buf.now - self.now.filter.order) + self.now.rates.increment) }
+        requires sizes { (self.now.rates.increment < 16777216) × (length buf.now ≤ 516) × (n ≤ 160) × (n ≤ length out.old) }
+        ensures { out.new ≡ over (read (fir (filter_of self.now.filter.order self.now.filter.coefs.now)) self.now.rates.increment n buf.now) out.old }
+    {
+        let increment = self.rates.increment;
+        let filter = self.filter;
+        if filter.order == 18 {
+            reading::read::<Apart<'_>, 160>(&Apart { filter }, increment, n, 6, buf, out);
+        } else {
+            reading::read::<InPairs<'_>, 160>(&InPairs { filter }, increment, n, 6, buf, out);
+        }
+    }
+}
+
 impl Stage for Lowering<'_> {
     type Words = DownWords;
 
@@ -66,7 +83,7 @@ impl Stage for Lowering<'_> {
         let mut buf = [0i32; 516];
         let ar2 = fill(&mut buf, given, &carried[..order], input, self.filter.coefs);
         let written = n / r.inKhz * r.outKhz;
-        reading::read::<Filter<'_>, 160>(&self.filter, r.increment, written, 6, &buf[..end], out);
+        self.read(written, &buf[..end], out);
         let fir = words::carried(0, &buf[n..end]);
         Pass {
             written,

@@ -4,11 +4,10 @@
 use Rattle.std.proofs.Common.{arith, ◌≡◌, ℕ, ◌∙◌, ap, List, length, length-append, take, ◌++◌, ◌+◌, ◌*◌, ◌-◌}
 use Rattle.std.proofs.lemmas.List.{length-take-le}
 use lib.IntN.{ℤ}
-use Rattle.fixed.specs.Fixed.{narrowed}
 use Rattle.filters.specs.Lists.{padded}
 use Rattle.filters.specs.Reader.{read, outputs}
 use Rattle.filters.specs.Stage.Ar2.{ar2}
-use Rattle.filters.specs.Stage.DownFir.{filter_of, filtered, fir, down_fir, down_batch, down_fir_carried}
+use Rattle.filters.specs.Stage.DownFir.{filter_of, fir, down_fir, down_batch, down_fir_carried}
 use Rattle.filters.proofs.Laws.Lengths.{ar2-length}
 use Rattle.filters.proofs.Laws.Lists.{last-part}
 use Rattle.stages.specs.Outcome.{over}
@@ -36,7 +35,7 @@ read-requires-clause-begins_inside c =
     rw (size, e) (omega arith, rw same at (whole-reach 1 r n (rw one c.args.self.now.steady) c.requires.0 c.requires.1))
 
 pub returns-clause-staged : goal.returns-clause-staged
-unfolding down_batch down_fir down_fir_carried fir
+unfolding down_batch down_fir down_fir_carried
 returns-clause-staged c =
     let f = c.args.self.now.filter in
     let w = c.args.words in
@@ -52,6 +51,6 @@ returns-clause-staged c =
     let words = c.carried-fir.ensures ∙ ap (padded 36) (last-part f.order n all _ both front) in
     record {
       filled = c.read.ensures
-          ∙ ap (λ (b : List ℤ). over (read (λ fraction ys. narrowed 6 (filtered g fraction ys)) r.increment (outputs r n) b) c.args.out.now) front;
+          ∙ ap (λ (b : List ℤ). over (read (fir g) r.increment (outputs r n) b) c.args.out.now) front;
       carried = λ i. record { ar2 = c.fill-ar2.ensures.carried i; fir = words i };
     }
