@@ -10,6 +10,7 @@ pub loop-xs-init : goal.loop-xs-init
 loop-xs-init g c =
     let S = g.S.Stage in
     let it = c.args.stage.now in
+    let all : c.into_iter-xs-iterator.result.rest.now ≡ c.args.input.now = search rules in
     let start = units-start (S.unit it) (S.gives it) (S.most it) c.requires.sizes.0 (omega arith) (S.made it) (S.next it) (g.met.S.Stage.counts it) {before = c.args.out.now} {s₀ = c.args.words} c.requires.whole.0 c.requires.whole.1 in
     search rules
 

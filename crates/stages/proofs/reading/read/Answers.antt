@@ -1,6 +1,6 @@
 -- `stages::reading::read` meets its contract: what is narrowed are the outputs at the buffer's front.
 -- Assumes nothing.
-use Rattle.std.proofs.Common.{arith, ◌≡◌, ◌∙◌, ap, length, take, drop, replicate, map, List, ◌++◌}
+use Rattle.std.proofs.Common.{arith, ◌≡◌, ◌∙◌, ap, length, take, drop, replicate, map, List, ◌++◌, ℕ, ◌*◌}
 use Rattle.std.proofs.lemmas.List.{length-take-le, length-replicate}
 use lib.IntN.{ℤ, pos}
 use lib.Seq.{take_at}
@@ -13,7 +13,7 @@ use Rattle.stages.proofs.reading.read.Goals as goal
 pub sums-requires-clause-begins_inside : goal.sums-requires-clause-begins_inside
 sums-requires-clause-begins_inside g c =
     let size : length (take c.args.n (replicate g.row.MOST (pos 0))) ≡ c.args.n = length-take-le c.args.n _ (omega (arith, length-replicate g.row.MOST (pos 0))) in
-    (c.requires.begins_inside.0, rw size c.requires.begins_inside.1)
+    (c.requires.begins_inside.0, omega (arith, ap (λ (k : ℕ). k * c.args.increment) size, c.requires.begins_inside.1))
 
 pub returns : goal.returns
 returns g c =
