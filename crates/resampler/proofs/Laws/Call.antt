@@ -174,9 +174,13 @@ module _ (s : Record) (xs : List ℤ) (room : ℕ) (c : Calling s (length xs) ro
       let w : length (rest s xs) % k ≡ 0 = rw rest-length rest-whole in
       pass-count p (omega (arith, some)) (between s xs) (rest s xs) w (sized-unused (path p) (between s xs) between-sized) ∙ ap (made p) rest-length
 
-  pub call-count : length (converted s xs) ≡ made p n
+  -- what a call puts out is what the two passes put out
+  call_both : converted s xs ≡ pass p (live s) (first s xs) ++ pass p (between s xs) (rest s xs)
   unfolding converted
-  call-count = length-append (pass p (live s) (first s xs)) (pass p (between s xs) (rest s xs)) ∙ omega (arith, first_count, rest-count, both-made)
+  call_both = refl
+
+  pub call-count : length (converted s xs) ≡ made p n
+  call-count = ap length call_both ∙ length-append (pass p (live s) (first s xs)) (pass p (between s xs) (rest s xs)) ∙ omega (arith, first_count, rest-count, both-made)
 
   -- the other two as parts of the input
   module _ {m : ℕ} (h : m ≡ d) where
