@@ -51,19 +51,11 @@ pub const DOWN_1_6: Filter<'static> = Filter {
     rows: 1,
 };
 
-// A filter of order 18: nine taps of the fraction's row forward, nine of its mirror backward.
+// A filter of order 18 alone: a loop over its outputs that holds no sums of outer samples takes a tenth fewer instructions.
 #[derive(Clone, Copy)]
 pub struct Apart<'a> {
     pub filter: Filter<'a>,
     pub ghost eighteen: { filter.order ≡ 18 },
-}
-
-// A filter of a higher order: a sum of two outer samples for each tap. Two readers, as the Rust has two loops: one that holds the taps of
-// both takes a tenth more.
-#[derive(Clone, Copy)]
-pub struct InPairs<'a> {
-    pub filter: Filter<'a>,
-    pub ghost above: { 18 < filter.order },
 }
 
 impl Reader for Apart<'_> {
@@ -73,6 +65,7 @@ impl Reader for Apart<'_> {
 
     ghost reading = { λ it. filtered (filter_of it.filter.order it.filter.coefs.now) };
 
+    // Nine taps of the fraction's row forward, nine of its mirror backward.
     fn output(&self, fraction: usize, from: &[i32]) -> i32 {
         let f = self.filter;
         let k = fraction * f.rows / 65536;
@@ -83,15 +76,20 @@ impl Reader for Apart<'_> {
     }
 }
 
-impl Reader for InPairs<'_> {
+// Of any order: those above 18 sum outer samples.
+impl Reader for Filter<'_> {
     type Sample = i32;
 
-    ghost reach = { λ it. it.filter.order };
+    ghost reach = { λ f. f.order };
 
-    ghost reading = { λ it. filtered (filter_of it.filter.order it.filter.coefs.now) };
+    ghost reading = { λ f. filtered (filter_of f.order f.coefs.now) };
 
     fn output(&self, fraction: usize, from: &[i32]) -> i32 {
-        let f = self.filter;
-        taps::inward(&f.coefs[2..2 + f.order / 2], &from[..f.order])
+        if self.order <= 18 {
+            let apart = Apart { filter: *self };
+            return apart.output(fraction, from);
+        }
+        let end = 2 + self.order / 2;
+        taps::inward(&self.coefs[2..end], &from[..self.order])
     }
 }

@@ -11,7 +11,7 @@ ghost use Rattle.filters.specs.Stage.DownFir.{filter_of, fir, down_batch, down_f
 
 use crate::parts::{Pass, Stage, in_parts};
 use crate::{ar2, reading, words};
-use filters::down_fir::{Apart, Filter, InPairs};
+use filters::down_fir::{Apart, Filter};
 use filters::rates::Rates;
 
 // The words of a down filter: those of AR2, and the carried ones, of which the first `order` are live.
@@ -42,7 +42,7 @@ struct Lowering<'a> {
 }
 
 impl Lowering<'_> {
-    // The first n outputs: of order 18 by one reader, of those above by another.
+    // The first n outputs; whether the order is 18 is asked once.
     fn read(&self, n: usize, buf: &[i32], out: &mut [i16])
         requires begins_inside { (self.now.filter.order ≤ length buf.now) × (n * self.now.rates.increment < 65536 * (length buf.now - self.now.filter.order) + self.now.rates.increment) }
         requires sizes { (self.now.rates.increment < 16777216) × (length buf.now ≤ 516) × (n ≤ 160) × (n ≤ length out.old) }
@@ -53,7 +53,7 @@ impl Lowering<'_> {
         if filter.order == 18 {
             reading::read::<Apart<'_>, 160>(&Apart { filter }, increment, n, 6, buf, out);
         } else {
-            reading::read::<InPairs<'_>, 160>(&InPairs { filter }, increment, n, 6, buf, out);
+            reading::read::<Filter<'_>, 160>(&filter, increment, n, 6, buf, out);
         }
     }
 }

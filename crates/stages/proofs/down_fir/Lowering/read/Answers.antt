@@ -1,4 +1,4 @@
--- The outputs of a down filter meet their contract: either reader gives the filter's.
+-- The outputs of a down filter meet their contract: either reader gives the definition's.
 -- Assumes nothing.
 use Rattle.filters.specs.Stage.DownFir.{fir}
 use Rattle.stages.proofs.down_fir.Lowering.read.Goals as goal

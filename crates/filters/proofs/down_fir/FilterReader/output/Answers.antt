@@ -1,4 +1,4 @@
--- The orders above 18 of a down filter meet their contract: an output goes by pairs.
+-- An output of a down filter meets its contract: order 18 goes by rows, the orders above it by pairs.
 -- Assumes nothing.
 use Rattle.std.proofs.Common.{rules, arith, ◌≡◌, ◌+◌, ◌/◌, ◌-◌, length, take, drop}
 use lib.IntN.{pos}
@@ -6,19 +6,17 @@ use Rattle.fixed.specs.Fixed.{times}
 use Rattle.filters.specs.Reader.{sum}
 use Rattle.filters.specs.Stage.DownFir.{outer_sums}
 use Rattle.filters.proofs.Laws.Taps.{first-fits, pairs-read}
-use Rattle.filters.proofs.down_fir.InPairsReader.output.Goals as goal
+use Rattle.filters.proofs.down_fir.FilterReader.output.Goals as goal
 
 pub inward-requires : goal.inward-requires
 inward-requires c =
-    let it = c.args.self.now in
-    let f = it.filter in
-    first-fits f.rows f.order f.coefs.now c.args.from.now it.above f.fitting c.requires.1
+    let f = c.args.self.now in
+    first-fits f.rows f.order f.coefs.now c.args.from.now c.if-self-le18.false f.fitting c.requires.1
 
 pub returns : goal.returns
 returns c =
-    let it = c.args.self.now in
-    let f = it.filter in
+    let f = c.args.self.now in
     let ys = c.args.from.now in
     let all : c.inward.result ≡ sum times (pos 0) (take (2 + f.order / 2 - 2) (drop 2 f.coefs.now)) (outer_sums (length (take f.order ys)) (take f.order ys)) = search rules in
-    let read = pairs-read f.rows f.order f.coefs.now ys f.fitting c.requires.1 it.above c.args.fraction all in
+    let read = pairs-read f.rows f.order f.coefs.now ys f.fitting c.requires.1 c.if-self-le18.false c.args.fraction all in
     search rules
