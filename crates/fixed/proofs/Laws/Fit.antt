@@ -1,5 +1,4 @@
--- Signed ranges, and reading a signed value back: what is stored, passed or returned at width w stands in a proof as
--- `to_z w (of_z w x)`, which is x where x fits. Assumes nothing.
+-- Signed ranges, and which products with a coefficient stay in them. Assumes nothing.
 use Prim.Native.Nat.{ℕ, ◌+◌, ◌*◌, ◌^◌, ◌<◌, ◌≤◌}
 use native.Mathlib.Omega.{arith}
 use native.Mathlib.Nat as NatL

@@ -1,4 +1,4 @@
--- Equations and orders over ℤ by their syntax: an atom `# z` is any integer, `val` is an expression's value, and that is
+-- Equations over ℤ by their syntax: an atom `# z` is any integer, `val` is an expression's value, and that is
 -- `up e` less `dn e`, two polynomials over ℕ, which `omega` compares. Assumes nothing.
 use mathlib.Core.Path.{◌≡◌, sym, ◌∙◌, ap, subst}
 use Prim.Native.Nat.{ℕ, ◌+◌, ◌*◌}
@@ -47,7 +47,7 @@ val_is (e ⊗ f) = (λ i. val_is e i *ℤ val_is f i) ∙ D-mul (up e) (dn e) (u
 pub of : (e : E) → P (val e) + dn e ≡ up e + N (val e)
 of e = subst (λ (z : ℤ). P z + dn e ≡ up e + N z) (sym (val_is e)) (pn-D (up e) (dn e))
 
--- to prove an equation or an order
+-- to prove an equation
 pub eq_z : (e f : E) → up e + dn f ≡ up f + dn e → val e ≡ val f
 eq_z e f h = val_is e ∙ D-eq (up e) (dn e) (up f) (dn f) h ∙ sym (val_is f)
 

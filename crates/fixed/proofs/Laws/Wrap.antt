@@ -1,5 +1,5 @@
--- What an i32 holds: `wrapped z` differs from z by a multiple of 2^32, is in range, and is the only such number; so sums,
--- differences and products may be wrapped early or late, and the machine's shifts left are it too. Assumes nothing.
+-- What an i32 holds: `wrapped z` differs from z by a multiple of 2^32, is in range, and is the only such number; so the
+-- machine's shifts left, sums and differences are it. Assumes nothing.
 use mathlib.Core.Path.{◌≡◌, refl, sym, ap}
 use mathlib.Core.Logic.{⊎_elim}
 use mathlib.Core.Bool.{Bool, true, false, not}
