@@ -508,8 +508,7 @@ const FACT: &str = "\
 -- A fact, the forms that facts are written in, and the claim that a table of them holds.
 use Rattle.std.specs.Prelude.{◌≡◌, ℕ, List, [], ◌∷◌, ◌++◌, map, ℤ, pos, replicate}
 use Rattle.filters.specs.Rom.{+◌, -◌}
-use Rattle.stages.specs.declared.answer.Answer.TheVariants.{Done, Refused}
-use Rattle.stages.specs.Outcome.{Outcome, outcome}
+use Rattle.stages.specs.Outcome.{Done, Refused, Outcome, outcome}
 use Rattle.resampler.specs.declared.Record.{Record}
 
 -- what a definition gives, and what the Rust said
