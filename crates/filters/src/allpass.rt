@@ -3,12 +3,7 @@
 ghost use Rattle.std.specs.Prelude.{◌≡◌, ◌<◌, nat_abs};
 ghost use Rattle.filters.specs.Section.{scaled, section_out, section_next, even_out, odd_out, halves_next};
 
-// What a section puts out, and its word for the next input.
-#[derive(Clone, Copy)]
-pub struct Section {
-    pub out: i32,
-    pub word: i32,
-}
+use crate::step::Step;
 
 // What the two sections put out, and their words: the even section's, then the odd one's.
 #[derive(Clone, Copy)]
@@ -25,14 +20,14 @@ pub fn scale(x: i16) -> i32
     1024 * (x as i32)
 }
 
-pub fn allpass(a: i32, s: i32, x: i32) -> Section
+pub fn allpass(a: i32, s: i32, x: i32) -> Step<i32, i32>
     requires { nat_abs a < 65536 }
-    ensures { (result.out ≡ section_out a s x) × (result.word ≡ section_next a s x) }
+    ensures { (result.out ≡ section_out a s x) × (result.words ≡ section_next a s x) }
 {
     let t = fixed::mul_q16(a, fixed::sub(x, s));
     let out = fixed::add(s, t);
-    let word = fixed::add(x, t);
-    Section { out, word }
+    let words = fixed::add(x, t);
+    Step { out, words }
 }
 
 // Section a on the even sample x and section b on the odd sample y.
@@ -46,6 +41,6 @@ pub fn both(a: i32, b: i32, words: [i32; 2], x: i16, y: i16) -> Halves
     Halves {
         even: e.out,
         odd: o.out,
-        words: [e.word, o.word],
+        words: [e.words, o.words],
     }
 }

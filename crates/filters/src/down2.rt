@@ -2,17 +2,12 @@
 ghost use Rattle.std.specs.Prelude.{◌≡◌};
 ghost use Rattle.filters.specs.Stage.Down2.{down2_sum, down2_next};
 
+use crate::step::Step;
 use crate::{allpass, rom};
 
-// The two sections' outputs for two samples added up, and the words after them.
-#[derive(Clone, Copy)]
-pub struct Added {
-    pub sum: i32,
-    pub words: [i32; 2],
-}
-
-pub fn step(words: [i32; 2], x: i16, y: i16) -> Added
-    ensures { (result.sum ≡ down2_sum words (x, y)) × (result.words ≡ down2_next words (x, y)) }
+// The two sections' outputs for two samples added up.
+pub fn step(words: [i32; 2], x: i16, y: i16) -> Step<i32, [i32; 2]>
+    ensures { (result.out ≡ down2_sum words (x, y)) × (result.words ≡ down2_next words (x, y)) }
 {
     let h = allpass::both(
         rom::silk_resampler_down2_1,
@@ -22,8 +17,6 @@ pub fn step(words: [i32; 2], x: i16, y: i16) -> Added
         y,
     );
     let words = h.words;
-    Added {
-        sum: fixed::add(h.even, h.odd),
-        words,
-    }
+    let out = fixed::add(h.even, h.odd);
+    Step { out, words }
 }

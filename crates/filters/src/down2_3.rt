@@ -7,25 +7,13 @@ ghost use Rattle.filters.specs.Reader.{Small};
 ghost use Rattle.filters.specs.Stage.Ar2.{ar2, ar2_end};
 ghost use Rattle.filters.specs.Stage.Down2_3.{tapped, down23, down23_end};
 
+use crate::step::Step;
 use crate::{rom, taps};
 use fixed::ar2;
 
-// What AR2 makes of three samples, and its words after them.
-#[derive(Clone, Copy)]
-struct Three {
-    ys: [i32; 3],
-    words: [i32; 2],
-}
-
-// The two outputs for three samples, and the words after them.
-#[derive(Clone, Copy)]
-pub struct Group {
-    pub out: [i16; 2],
-    pub words: [i32; 6],
-}
-
-fn filtered_three(s: [i32; 2], x: i16, y: i16, z: i16) -> Three
-    ensures outputs { result.ys ≡ ar2 silk_Resampler_2_3_COEFS_LQ s (x ∷ y ∷ z ∷ []) }
+// What AR2 makes of three samples.
+fn filtered_three(s: [i32; 2], x: i16, y: i16, z: i16) -> Step<[i32; 3], [i32; 2]>
+    ensures outputs { result.out ≡ ar2 silk_Resampler_2_3_COEFS_LQ s (x ∷ y ∷ z ∷ []) }
     ensures words { result.words ≡ ar2_end silk_Resampler_2_3_COEFS_LQ s (x ∷ y ∷ z ∷ []) }
 {
     let t = &rom::silk_Resampler_2_3_COEFS_LQ;
@@ -35,8 +23,8 @@ fn filtered_three(s: [i32; 2], x: i16, y: i16, z: i16) -> Three
     let b = ar2::moved(a, y1, t);
     let y2 = ar2::filtered(b, z);
     let words = ar2::moved(b, y2, t);
-    Three {
-        ys: [y0, y1, y2],
+    Step {
+        out: [y0, y1, y2],
         words,
     }
 }
@@ -50,18 +38,18 @@ fn four(t: [i64; 4], ys: [i32; 4]) -> i16
 }
 
 // The first output of a group is read from its start, the second from one sample later.
-pub fn group_of(words: [i32; 6], x: i16, y: i16, z: i16) -> Group
+pub fn group_of(words: [i32; 6], x: i16, y: i16, z: i16) -> Step<[i16; 2], [i32; 6]>
     ensures outputs { result.out ≡ down23 words (x ∷ y ∷ z ∷ []) }
     ensures words { result.words ≡ down23_end words (x ∷ y ∷ z ∷ []) }
 {
     let t = rom::silk_Resampler_2_3_COEFS_LQ;
     let [w0, w1, w2, w3, s0, s1] = words;
     let three = filtered_three([s0, s1], x, y, z);
-    let [y0, y1, y2] = three.ys;
+    let [y0, y1, y2] = three.out;
     let [s0, s1] = three.words;
     let first = four([t[2], t[3], t[5], t[4]], [w0, w1, w2, w3]);
     let second = four([t[4], t[5], t[3], t[2]], [w1, w2, w3, y0]);
-    Group {
+    Step {
         out: [first, second],
         words: [w3, y0, y1, y2, s0, s1],
     }

@@ -22,7 +22,7 @@ fn sums(words: [i32; 2], out: &mut [i32], input: &[i16]) -> [i32; 2]
     let [mut even, mut odd] = words;
     for (k, xs) in input.chunks_exact(2).enumerate() {
         let d = step([even, odd], xs[0], xs[1]);
-        out[k] = d.sum;
+        out[k] = d.out;
         let [e, o] = d.words;
         even = e;
         odd = o;

@@ -30,7 +30,7 @@ loop-k-preserved c =
     let xs = c.in-Some.xs.now in
     let w = to_z w32 c.loop-k.even-bits ∷ to_z w32 c.loop-k.odd-bits ∷ [] in
     let first = pair-first _ _ s.0.1.0 s.0.1.1 c.loop-k.invariant.0 in
-    let sum : to_z w32 (of_z w32 c.step-d.result.sum) ≡ down2_sum w (xs ! 0, xs ! 1) = search rules in
+    let sum : to_z w32 (of_z w32 c.step-d.result.out) ≡ down2_sum w (xs ! 0, xs ! 1) = search rules in
     let all-words = spelt 2 c.step-d.result.words (omega (arith, c.well_formed)) in
     let words : to_z w32 (of_z w32 (c.step-d.result.words ! 0)) ∷ to_z w32 (of_z w32 (c.step-d.result.words ! 1)) ∷ [] ≡ down2_next w (xs ! 0, xs ! 1) = search rules in
     (s.0.0 ∙ c.loop-k.invariant.0, rw (s.1, s.2) (run-turn down2_sum down2_next c.args.words (pairs c.args.input.now) c.args.out.now first c.loop-k.invariant.1 sum words))
