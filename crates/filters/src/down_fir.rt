@@ -76,7 +76,7 @@ impl Reader for Apart<'_> {
     }
 }
 
-// Of any order: those above 18 sum outer samples.
+// Of any order that fits: those above 18 sum outer samples.
 impl Reader for Filter<'_> {
     type Sample = i32;
 
