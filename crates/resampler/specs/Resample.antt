@@ -66,11 +66,7 @@ twice_end next s xs ys = next (next s xs) ys
 unfoldable pub both_out : Record → List ℤ → List ℤ → List ℤ
 both_out s = twice (pass (pair_of s)) (pass_words (pair_of s)) (live s)
 
--- the record after both, with the samples zs carried on
-unfoldable pub both_after : Record → List ℤ → List ℤ → List ℤ → Record
-both_after s xs ys zs = record_of (pair_of s) (twice_end (pass_words (pair_of s)) (live s) xs ys) zs
-
--- the same, its delay samples as they were
+-- the record after both, its delay samples as they were
 unfoldable pub moved : Record → List ℤ → List ℤ → Record
 moved s xs ys = keeping (pair_of s) (twice_end (pass_words (pair_of s)) (live s) xs ys) s.delay
 
@@ -81,12 +77,6 @@ Passed s xs ys before after q = Staged (both_out s xs ys) (moved s xs ys) before
 -- the room that both ask
 abbrev pub room_of : Record → List ℤ → ℕ
 room_of s ys = s.outKhz + outputs (rates_of (pair_of s)) (length ys)
-
--- what two passes ask: a millisecond, whole ones behind it, and room for what both make
-pub record Taking (r : Rates) (first rest out : List ℤ) : Type 0 where
-  pub one : length first ≡ r.inKhz
-  pub whole : length rest % r.inKhz ≡ 0
-  pub room : r.outKhz + outputs r (length rest) ≤ length out
 
 -- ---- a call
 

@@ -6,8 +6,7 @@ ghost use Rattle.stages.specs.Outcome.{Staged, outcome, answer_of};
 ghost use Rattle.filters.specs.Stage.AnaFiltBank1.{split_low, split_high, split_end};
 ghost use Rattle.stages.specs.Entry.{split_outcome};
 
-use crate::answer;
-use crate::answer::Answered;
+use crate::answer::{self, Answered};
 use filters::ana_filt_bank_1::step;
 
 // Fills the front of both bands and returns the words after the input.

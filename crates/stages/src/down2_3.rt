@@ -6,8 +6,7 @@ ghost use Rattle.stages.specs.Outcome.{Staged, outcome, answer_of, row};
 ghost use Rattle.filters.specs.Stage.Down2_3.{down23, down23_end};
 ghost use Rattle.stages.specs.Entry.{down23_row, down23_outcome};
 
-use crate::answer;
-use crate::answer::{Answered, Refusal};
+use crate::answer::{self, Answered, Refusal};
 use filters::down2_3::group_of;
 
 // Fills the front of the output and returns the words after the input.

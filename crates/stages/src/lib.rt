@@ -1,5 +1,5 @@
 // The stages of the SILK resampler, with the two decimators and the two-band split: samples and carried words in, samples
-// and carried words out, no pairs and no records. Each file has the name of the Rust's; `answer` and `words` are ours; what
+// and carried words out, no pairs and no records. Each file has the name of the Rust's; `answer`, `parts`, `reading` and `words` are ours; what
 // is made of a sample or read for an output is the crate `filters`, whose tables and rates are handed on to callers.
 #![tactic(auto)]
 

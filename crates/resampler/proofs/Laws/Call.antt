@@ -18,9 +18,10 @@ use Rattle.filters.proofs.Laws.Lists.{part-rest}
 use Rattle.resampler.specs.declared.Record.{Record}
 use Rattle.resampler.specs.Pairs.{Pair, supported, path, rate_id, delay, delay_matrix_enc, delay_matrix_dec}
 use Rattle.resampler.specs.Record.{pair_of, live, live_delay, keeping, record_of}
-use Rattle.resampler.specs.Resample.{made, rates_of, signal, pass, both_out, both_after, moved, Taking, first, rest, between, converted, after, Calling}
+use Rattle.resampler.specs.Resample.{made, rates_of, signal, pass, pass_words, twice_end, both_out, moved, first, rest, between, converted, after, Calling}
 use Rattle.resampler.proofs.Laws.Pairs.{of-each, small}
 use Rattle.resampler.proofs.Laws.Entries.{delay-few}
+use Rattle.resampler.proofs.Laws.Twice.{Taking}
 use Rattle.resampler.proofs.Laws.Words.{Sized, sized-unused, live-sized, pass-sized}
 use Rattle.resampler.proofs.Laws.Count.{pass-count}
 use Rattle.resampler.proofs.Laws.Twice.{one-makes}
@@ -204,8 +205,8 @@ module _ (s : Record) (xs : List ℤ) (room : ℕ) (c : Calling s (length xs) ro
 
     pub call-is : {ts before o ds : List ℤ} {q : Record} → ts ≡ drop n (signal s xs) → ds ≡ padded 48 ts
         → Staged (both_out s ys zs) (moved s ys zs) before o q → Staged (converted s xs) (after s xs) before o (carrying q ds)
-    unfolding both_out moved both_after keeping record_of between converted after
+    unfolding both_out moved keeping record_of between converted after
     call-is {ts} {before} e h st = record {
       filled = st.filled ∙ (λ i. over (both_out s (f i) (g i)) before);
-      carried = (λ i. carrying (st.carried i) (h i)) ∙ (λ i. both_after s (f i) (g i) (e i));
+      carried = (λ i. carrying (st.carried i) (h i)) ∙ (λ i. record_of p (twice_end (pass_words p) (live s) (f i) (g i)) (e i));
     }

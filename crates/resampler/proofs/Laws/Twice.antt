@@ -19,9 +19,15 @@ use Rattle.stages.proofs.Laws.Loop.{over-behind}
 use Rattle.stages.proofs.Laws.Pass as Pass
 use Rattle.resampler.specs.declared.Record.{Record}
 use Rattle.resampler.specs.Record.{Words, live, pair_of, keeping}
-use Rattle.resampler.specs.Resample.{pass, pass_words, twice, twice_end, both_out, moved, Taking, room_of, rates_of}
+use Rattle.resampler.specs.Resample.{pass, pass_words, twice, twice_end, both_out, moved, room_of, rates_of}
 
 -- ---- what two passes ask, for each of them
+
+-- a millisecond, whole ones behind it, and room for what both make
+pub record Taking (r : Rates) (first rest out : List ℤ) : Type 0 where
+  pub one : length first ≡ r.inKhz
+  pub whole : length rest % r.inKhz ≡ 0
+  pub room : r.outKhz + outputs r (length rest) ≤ length out
 
 module _ (r : Rates) (some : 0 < r.inKhz) where
   -- a millisecond makes out-kHz samples
