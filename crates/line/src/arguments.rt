@@ -1,4 +1,6 @@
 // The program `open_line`: its arguments, and what it writes.
+ghost use Rattle.std.specs.Prelude.{◌≤◌, length};
+
 use crate::{opening, said};
 use stages::Refusal;
 use std::env::{Env, FillError};
@@ -33,7 +35,9 @@ fn given(rt: &HostRuntime, i: usize) -> bool {
 }
 
 // Puts an argument into `to` and answers its letters; none where there is no room for it.
-fn word<'a>(rt: &HostRuntime, i: usize, to: &'a mut [u8; 8]) -> &'a [u8] {
+fn word<'a>(rt: &HostRuntime, i: usize, to: &'a mut [u8; 8]) -> &'a [u8]
+    ensures { length result.now ≤ length to.old }
+{
     let n = rt.arg(i, to).unwrap_or(0);
     &to[..n]
 }

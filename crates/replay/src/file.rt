@@ -39,9 +39,16 @@ impl Entry for i16 {
 }
 
 // The next four bytes, zeros for those that lie behind the end of the file, and how many there were.
-fn four(from: &mut File) -> io::Result<([u8; 4], u64)> {
+fn four(from: &mut File) -> io::Result<([u8; 4], usize)> {
     let mut b = [0u8; 4];
-    let n = io::copy(&mut from.take(4), &mut &mut b[..])?;
+    let mut n = 0;
+    for _ in 0..4 {
+        let more = from.read(&mut b[n..])?;
+        n += more;
+        if more == 0 || n == 4 {
+            break;
+        }
+    }
     Ok((b, n))
 }
 

@@ -43,8 +43,8 @@ fn copied(p: Parts<'_>, out: &mut [i16]) -> Record
 {
     let s = p.known.state;
     let outKhz = s.outKhz as usize;
-    out[..p.first.len()].copy_from_slice(p.first);
-    out[outKhz..outKhz + p.rest.len()].copy_from_slice(p.rest);
+    stages::copy_samples(out, p.first);
+    stages::copy_samples(&mut out[outKhz..], p.rest);
     bare(s)
 }
 
@@ -58,7 +58,9 @@ fn doubled(p: Parts<'_>, out: &mut [i16]) -> Record
     let outKhz = s.outKhz as usize;
     let between = stages::silk_resampler_private_up2_HQ(s.doubler, out, p.first);
     let doubler = stages::silk_resampler_private_up2_HQ(between, &mut out[outKhz..], p.rest);
-    Record { doubler, ..bare(s) }
+    let mut after = bare(s);
+    after.doubler = doubler;
+    after
 }
 
 // Any other higher rate.
@@ -75,11 +77,10 @@ fn interpolated(p: Parts<'_>, out: &mut [i16]) -> Record
     let a = stages::silk_resampler_private_IIR_FIR(r, given, out, p.first);
     let b = stages::silk_resampler_private_IIR_FIR(r, a.words, &mut out[r.outKhz..], p.rest);
     let IirFirWords { doubler, samples } = b.words;
-    Record {
-        doubler,
-        samples,
-        ..bare(s)
-    }
+    let mut after = bare(s);
+    after.doubler = doubler;
+    after.samples = samples;
+    after
 }
 
 // A lower rate.
@@ -97,11 +98,10 @@ fn lowered(p: Parts<'_>, out: &mut [i16]) -> Record
     let a = stages::silk_resampler_private_down_FIR(r, f, given, out, p.first);
     let b = stages::silk_resampler_private_down_FIR(r, f, a.words, &mut out[r.outKhz..], p.rest);
     let DownWords { ar2, fir } = b.words;
-    Record {
-        ar2,
-        fir,
-        ..bare(s)
-    }
+    let mut after = bare(s);
+    after.ar2 = ar2;
+    after.fir = fir;
+    after
 }
 
 // The path of a pair, by its two rates.

@@ -61,8 +61,7 @@ fn call(known: Known, out: &mut [i16], input: &[i16]) -> Record
         first: &buf[..inKhz],
         rest: &input[inKhz - d..end],
     };
-    Record {
-        delay: stages::carried(0, &input[end..]),
-        ..passes::both(parts, out)
-    }
+    let mut after = passes::both(parts, out);
+    after.delay = stages::carried(0, &input[end..]);
+    after
 }

@@ -17,8 +17,9 @@ use Rattle.filters.specs.Stage.Down2.{down2, down2_end}
 use Rattle.filters.specs.Stage.Down2_3.{down23, down23_end}
 use Rattle.filters.specs.Stage.AnaFiltBank1.{split_low, split_high, split_end}
 use Rattle.stages.specs.Entry.{half_row, down23_row, down2_outcome, split_outcome, down23_outcome}
-use Rattle.stages.specs.Claims.{Fixed, OutcomesFixed, StagesFixed, DeadFixed, RefusedBy, RefusalsRefuse, NothingKept, BeyondUntouched}
+use Rattle.stages.specs.Claims.{Fixed, OutcomesFixed, AnswersFixed, StagesFixed, DeadFixed, RefusedBy, RefusalsRefuse, NothingKept, BeyondUntouched}
 use Rattle.filters.proofs.Laws.Group.{no-group, down23-length}
+use Rattle.stages.proofs.Laws.Outcome.{answer-tells}
 
 -- two that equal the same
 pub fixed : {S L : Type 0} (promised : Outcome S L) → Fixed promised
@@ -27,6 +28,12 @@ fixed promised a b p q = p ∙ sym q
 pub outcomes_fixed : OutcomesFixed
 unfolding OutcomesFixed
 outcomes_fixed w input out high = (fixed (down2_outcome w input out), fixed (split_outcome w input out high), fixed (down23_outcome w input out))
+
+pub answers_fixed : AnswersFixed
+unfolding AnswersFixed
+answers_fixed S L promised a b s t l m p q =
+    let same = p ∙ sym q in
+    (answer-tells a b (ap (λ o. o.answer) same), ap (λ o. o.state) same, ap (λ o. o.lent) same)
 
 pub stages_fixed : StagesFixed
 unfolding StagesFixed

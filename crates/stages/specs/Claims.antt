@@ -1,6 +1,7 @@
 -- What is claimed of the promises, a sentence and a statement each. The proofs stand in proofs/Claims.antt.
-use Rattle.std.specs.Prelude.{◌≡◌, ◌&&◌, ℕ, ◌/◌, List, [], eqb, ℤ, length, take, drop}
-use Rattle.stages.specs.Outcome.{Done, Outcome, outcome, number, written, Staged}
+use Rattle.std.specs.Prelude.{◌≡◌, ◌&&◌, ℕ, ◌/◌, List, [], eqb, ℤ, length, take, drop, Result}
+use Rattle.stages.specs.declared.answer.Refusal.{Refusal}
+use Rattle.stages.specs.Outcome.{Done, Outcome, outcome, answer_of, number, written, Staged}
 use Rattle.filters.specs.Lists.{padded}
 use Rattle.stages.specs.Entry.{half_row, down23_row, down2_outcome, split_outcome, down23_outcome}
 
@@ -12,6 +13,13 @@ unfoldable pub OutcomesFixed : Type 0
 OutcomesFixed =
     (w input out high : List ℤ)
     → Fixed (down2_outcome w input out) × Fixed (split_outcome w input out high) × Fixed (down23_outcome w input out)
+
+-- and all that the code returns: any two of its answers that a promise allows are one, the refusal itself too, and so are the states
+-- and what was lent
+unfoldable pub AnswersFixed : Type 1
+AnswersFixed =
+    (S L : Type 0) (promised : Outcome S L) (a b : Result ℕ Refusal) (s t : S) (l m : L)
+    → outcome (answer_of a) s l ≡ promised → outcome (answer_of b) t m ≡ promised → (a ≡ b) × (s ≡ t) × (l ≡ m)
 
 -- likewise for a stage that is no entry point: any two outputs that its promise allows are one, and so are the words
 unfoldable pub StagesFixed : Type 1

@@ -27,4 +27,4 @@ pub use filters::rom;
 pub use iir_fir::{IirFirWords, silk_resampler_private_IIR_FIR};
 pub use parts::Pass;
 pub use up2_hq::silk_resampler_private_up2_HQ;
-pub use words::carried;
+pub use words::{carried, copy_samples};

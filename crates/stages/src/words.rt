@@ -1,7 +1,17 @@
-// Many words at a time: narrowing, and what is carried on.
+// Many words at a time: copies, narrowing, and what is carried on.
 ghost use Rattle.std.specs.Prelude.{◌<◌, ◌≤◌, ◌≡◌, ◌++◌, ◌-◌, map, length, replicate};
 ghost use Rattle.fixed.specs.Fixed.{narrowed};
 ghost use Rattle.stages.specs.Outcome.{over};
+
+// Copies samples to the front of the output.
+pub fn copy_samples(out: &mut [i16], from: &[i16])
+    requires { length from.now ≤ length out.old }
+    ensures { out.new ≡ over from.now out.old }
+{
+    for (k, x) in from.iter().enumerate() {
+        out[k] = *x;
+    }
+}
 
 // Narrows the words by n bits into the front of the output. Apart from the loop that makes them, this takes eight at a time.
 pub fn narrow(out: &mut [i16], n: u32, from: &[i32])

@@ -1,18 +1,17 @@
 -- Two passes over whole milliseconds, one behind the other in the output, are one, whatever state they carry; and where it is a
 -- path's words, they are both passes of a call. Assumes nothing.
-use mathlib.Core.Path.{◌≡◌, refl, sym, ap, ◌∙◌}
-use mathlib.Core.List.{List, [], ◌++◌, append-nil}
-use Prim.Native.Nat.{ℕ, ◌+◌, ◌*◌, ◌-◌, ◌/◌, ◌%◌, ◌<◌, ◌≤◌}
+use mathlib.Core.Path.{◌≡◌, sym, ap, ◌∙◌}
+use mathlib.Core.List.{List, ◌++◌}
+use Prim.Native.Nat.{◌+◌, ◌*◌, ◌-◌, ◌/◌, ◌%◌, ◌<◌, ◌≤◌}
 use native.Mathlib.Nat.{mul-div_cancel, one-mul, mod_self}
 use native.Mathlib.Omega.{arith}
-use borrow.Rule.Slice.PartMut.{mid_of, post_of, put_mid}
+use borrow.Rule.Slice.PartMut.{mid_of, put_mid}
 use lib.IntN.{ℤ}
 use lib.ListN.{length, drop, length-take, length-drop}
 use Rattle.filters.specs.declared.rates.Rates.{Rates}
 use Rattle.filters.specs.Reader.{outputs}
 use Rattle.filters.specs.Stage.IirFir.{iir_fir_batch, iir_fir_next, iir_fir_pass}
 use Rattle.filters.specs.Stage.DownFir.{Filter, down_batch, down_next, down_pass}
-use Rattle.filters.proofs.Laws.Lists.{drop-none, part-rest}
 use Rattle.filters.proofs.Laws.Lengths.{iir_fir_batch-length, down_batch-length}
 use Rattle.stages.specs.Outcome.{over, Staged}
 use Rattle.stages.proofs.Laws.Loop.{over-behind}
@@ -83,14 +82,6 @@ module _ (r : Rates) (some : 0 < r.inKhz) where
 pub takes : (s : Record) {r : Rates} {xs ys out : List ℤ} → r ≡ rates_of (pair_of s) → length xs ≡ s.inKhz → length ys % s.inKhz ≡ 0
     → room_of s ys ≤ length out → Taking r xs ys out
 takes s e a b c = rw e (record { one = a; whole = b; room = c })
-
--- samples copied behind a millisecond are what a pass leaves of all that is lent to it
-pub copied-behind : (k : ℕ) (ys o : List ℤ) {zs : List ℤ} → k ≤ length o → zs ≡ ys
-    → put_mid k (k + length ys - k) o zs ≡ put_mid k (length o - k) o (over ys (mid_of k (length o - k) o))
-copied-behind k ys o h e =
-    let n : k + length ys - k ≡ length ys = omega arith in
-    let none : post_of k (length o - k) o ≡ [] = drop-none (drop k o) (length o - k) (omega (arith, length-drop k o)) in
-    rw (n, e, none, part-rest o k, append-nil) refl
 
 -- ---- both passes of a call, where each is a stage's on a state that is the words of the path
 

@@ -1,7 +1,7 @@
 -- Outcomes: what a row leads to, what the shared rows show where none applies, and an output that is filled to its end.
 -- Assumes nothing.
 use Rattle.std.specs.Prelude.{if◌then◌else◌, Result, Ok, Err}
-use mathlib.Core.Path.{◌≡◌, refl}
+use mathlib.Core.Path.{◌≡◌, refl, sym, ap, ◌∙◌}
 use mathlib.Core.Bool.{Bool, true, false, not}
 use Prim.Native.Nat.{ℕ, ◌*◌, ◌/◌, ◌%◌, ◌≤◌}
 use native.Mathlib.Omega.{arith}
@@ -9,7 +9,7 @@ use borrow.Author.Tests.{ne_eqb, eqb-true, ltb-false}
 use lib.Dec.{ltb, eqb}
 use Rattle.stages.specs.declared.answer.Refusal.{Refusal}
 use Rattle.stages.specs.declared.answer.Refusal.TheVariants.{PairNotListed, NoSupportedPair, NotWholeMilliseconds, TooLong, OutputTooShort, NotInGroups, NotHalf, NotABlock, CheckDiffers, LayoutUnknown, BlockPairUnsupported, DeadNotZero}
-use Rattle.stages.specs.Outcome.{Done, Outcome, outcome, ruled, row_of, answer_of}
+use Rattle.stages.specs.Outcome.{Done, Outcome, outcome, ruled, row_of, answer_of, number, written}
 use Rattle.stages.specs.Entry.{half_row, down23_row, most_samples}
 
 -- no refusal is row 0
@@ -28,6 +28,38 @@ refusal-is-no-0 = elim [
   | BlockPairUnsupported ↦ λ e. omega arith
   | DeadNotZero ↦ λ e. omega arith
 ]
+
+-- the refusal of a row
+refusal-at : ℕ → Refusal
+refusal-at row =
+    if eqb row 1 then PairNotListed else if eqb row 2 then NoSupportedPair else if eqb row 3 then NotWholeMilliseconds
+    else if eqb row 4 then TooLong else if eqb row 5 then OutputTooShort else if eqb row 6 then NotInGroups
+    else if eqb row 7 then NotHalf else if eqb row 8 then NotABlock else if eqb row 9 then CheckDiffers
+    else if eqb row 10 then LayoutUnknown else if eqb row 11 then BlockPairUnsupported else DeadNotZero
+
+refusal-there : (refusal : Refusal) → refusal-at (row_of refusal) ≡ refusal
+unfolding refusal-at
+refusal-there = elim [
+  | PairNotListed ↦ refl
+  | NoSupportedPair ↦ refl
+  | NotWholeMilliseconds ↦ refl
+  | TooLong ↦ refl
+  | OutputTooShort ↦ refl
+  | NotInGroups ↦ refl
+  | NotHalf ↦ refl
+  | NotABlock ↦ refl
+  | CheckDiffers ↦ refl
+  | LayoutUnknown ↦ refl
+  | BlockPairUnsupported ↦ refl
+  | DeadNotZero ↦ refl
+]
+
+-- no two refusals have one row, and none has that of what is done: the numbers of the table tell the code's answers apart
+pub answer-tells : (a b : Result ℕ Refusal) → answer_of a ≡ answer_of b → a ≡ b
+answer-tells (Ok n) (Ok m) e = ap Ok (ap written e)
+answer-tells (Ok n) (Err q) e = absurd (refusal-is-no-0 q (sym (ap number e)))
+answer-tells (Err p) (Ok m) e = absurd (refusal-is-no-0 p (ap number e))
+answer-tells (Err p) (Err q) e = ap Err (sym (refusal-there p) ∙ ap refusal-at (ap number e) ∙ refusal-there q)
 
 module _ {S L : Type 0} (s : S) (l : L) {r : ℕ} {a : Result ℕ Refusal} {t : S} where
   -- a row applies: the state and what was lent are as they were

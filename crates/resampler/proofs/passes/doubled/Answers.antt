@@ -39,4 +39,4 @@ returns c =
     twice-staged (rates_of p) some t up2 up2_end (λ w xs h. up2-length w xs ∙ sym (made-twice p (length xs) h double))
     c.silk_resampler_private_up2_HQ-between.ensures c.silk_resampler_private_up2_HQ-doubler.ensures in
     both-staged s (λ w. arrays w [] [] []) up2 up2_end (λ w xs. doubled p (arrays w [] [] []) xs some path (refl, refl, refl)) (live-doubler s path (search rules))
-    both (with-doubler s c.bare.ensures (search rules))
+    both (with-doubler s c.bare-after.ensures (search rules))

@@ -44,4 +44,4 @@ returns c =
     twice-staged r steady.some t (iir_fir_pass r) (iir_fir_end r) (iir_fir_pass-length r steady.some)
     c.silk_resampler_private_IIR_FIR-a.ensures.staged c.silk_resampler_private_IIR_FIR-b.ensures.staged in
     both-staged s (λ w. arrays w.0 w.1 [] []) (iir_fir_pass r) (iir_fir_end r) (λ w xs. interpolated (pair_of s) (arrays w.0 w.1 [] []) xs c.requires.kind e (refl, refl))
-    (live-interpolator s c.requires.kind (search rules) (search rules)) both (with-interpolator s c.bare.ensures (search rules) (search rules))
+    (live-interpolator s c.requires.kind (search rules) (search rules)) both (with-interpolator s c.bare-after.ensures (search rules) (search rules))

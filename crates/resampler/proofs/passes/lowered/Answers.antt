@@ -46,4 +46,4 @@ returns c =
     let b = c.silk_resampler_private_down_FIR-b in
     let both = twice-staged r steady.some t (down_pass g r) (down_end g r) (down_pass-length r steady.some g) c.silk_resampler_private_down_FIR-a.ensures.staged b.ensures.staged in
     both-staged s (λ w. arrays [] [] w.0 w.1) (down_pass g r) (down_end g r) (λ w xs. lowered (pair_of s) (arrays [] [] w.0 w.1) xs path e (refl, refl))
-    (live-down s g path (search rules)) both (with-down s c.bare.ensures _ (search rules) b.ensures.dead)
+    (live-down s g path (search rules)) both (with-down s c.bare-after.ensures _ (search rules) b.ensures.dead)

@@ -54,8 +54,8 @@ slice_bounds-parts-end c =
 pub overflow_sub-parts : goal.overflow_sub-parts
 overflow_sub-parts c = (facts c.args.known.state c.args.input.now c.requires c.delay-d.ensures).0
 
-pub carried-requires : goal.carried-requires
-carried-requires c =
+pub carried-after-requires : goal.carried-after-requires
+carried-after-requires c =
     let xs = c.args.input.now in
     let m = length xs - c.delay-d.result in
     omega (arith, facts c.args.known.state xs c.requires c.delay-d.ensures, length-take (length xs - m) (drop m xs), length-drop m xs)
@@ -68,8 +68,8 @@ invariant_of-parts c =
     let t = call-takes s xs _ c.requires filled.0 (rest_part s xs _ c.requires c.delay-d.ensures) {out = c.args.out.now} refl in
     record { one = t.one; whole = t.whole }
 
-pub both-requires : goal.both-requires
-both-requires c =
+pub both-after-requires : goal.both-after-requires
+both-after-requires c =
     let s = c.args.known.state in
     let xs = c.args.input.now in
     let filled = first-filled s xs _ c.requires c.copy_from_slice.new.self c.delay-d.ensures c.copy_from_slice.ensures.after in
@@ -82,4 +82,4 @@ returns c =
     let xs = c.args.input.now in
     let e = c.delay-d.ensures in
     let filled = first-filled s xs _ c.requires c.copy_from_slice.new.self e c.copy_from_slice.ensures.after in
-    call-is s xs _ c.requires filled.0 (rest_part s xs _ c.requires e) (carried-part s xs _ c.requires e) c.carried.ensures c.both.ensures
+    call-is s xs _ c.requires filled.0 (rest_part s xs _ c.requires e) (carried-part s xs _ c.requires e) c.carried-after.ensures c.both-after.ensures
